@@ -202,8 +202,8 @@ same_word_itself [] = refl
 same_word_itself (a ∷ more) = ap₂ (λ x y. x && y) (eq-eqb a a refl) (same_word_itself more)
 
 -- so words that differ do not begin the same line
-apart : (v w : List ℕ) (ws rest : List (List ℕ)) → is_same_word v w ≡ false → v ∷ ws ≡ w ∷ rest → ⊥
-apart v w ws rest differ same =
+apart : {v w : List ℕ} {ws rest : List (List ℕ)} → is_same_word v w ≡ false → v ∷ ws ≡ w ∷ rest → ⊥
+apart {v} {w} differ same =
     let one : v ≡ w = cc same in
     let is : is_same_word v w ≡ true = subst (λ x. is_same_word v x ≡ true) one (same_word_itself v) in
     absurd (cc (is, differ))
@@ -223,88 +223,56 @@ enqueue_of m = commands.Schedule (calls.Enqueue m.0 m.1.0 m.1.1.0 m.1.1.1.0 m.1.
 
 only_link : AreOfName command_words IsCommandInRange (codes "link") link_of
 only_link (commands.Link origin recipient cap) ws rest range said = ((origin, (recipient, cap)), refl)
-only_link (commands.Flow f) ws rest range said = absurd (apart (codes "link") (codes "flow") ws _ refl said)
-only_link (commands.Egress peer cap) ws rest range said = absurd (apart (codes "link") (codes "egress") ws _ refl said)
-only_link (commands.Ingress peer cap) ws rest range said =
-    absurd (apart (codes "link") (codes "ingress") ws _ refl said)
-only_link commands.Rates ws rest range said = absurd (apart (codes "link") (codes "rates") ws _ refl said)
-only_link (commands.Network (lines.Hop flow hop)) ws rest range said =
-    absurd (apart (codes "link") (codes "hop") ws _ refl said)
-only_link (commands.Network (lines.Cap at cap)) ws rest range said =
-    absurd (apart (codes "link") (codes "cap") ws _ refl said)
-only_link (commands.Network (lines.Weight flow weight)) ws rest range said =
-    absurd (apart (codes "link") (codes "weight") ws _ refl said)
-only_link commands.Routes ws rest range said = absurd (apart (codes "link") (codes "routes") ws _ refl said)
-only_link (commands.Schedule (calls.Limit now peer egress ingress)) ws rest range said =
-    absurd (apart (codes "link") (codes "limit") ws _ refl said)
-only_link (commands.Schedule (calls.LimitLink now origin recipient cap)) ws rest range said =
-    absurd (apart (codes "link") (codes "limitlink") ws _ refl said)
-only_link (commands.Schedule (calls.Enqueue now origin recipient channel length latency should_deliver)) ws rest
-    range said =
-    absurd (apart (codes "link") (codes "enqueue") ws _ refl said)
+only_link (commands.Flow f) ws rest range said = absurd (apart refl said)
+only_link (commands.Egress peer cap) ws rest range said = absurd (apart refl said)
+only_link (commands.Ingress peer cap) ws rest range said = absurd (apart refl said)
+only_link commands.Rates ws rest range said = absurd (apart refl said)
+only_link (commands.Network (lines.Hop flow hop)) ws rest range said = absurd (apart refl said)
+only_link (commands.Network (lines.Cap at cap)) ws rest range said = absurd (apart refl said)
+only_link (commands.Network (lines.Weight flow weight)) ws rest range said = absurd (apart refl said)
+only_link commands.Routes ws rest range said = absurd (apart refl said)
+only_link (commands.Schedule (calls.Limit now peer egress ingress)) ws rest range said = absurd (apart refl said)
+only_link (commands.Schedule (calls.LimitLink now origin recipient cap)) ws rest range said = absurd (apart refl said)
+only_link (commands.Schedule (calls.Enqueue _ _ _ _ _ _ _)) ws rest range said = absurd (apart refl said)
 only_link (commands.Schedule (calls.EnqueueAll now messages)) ws rest range said = absurd range
-only_link (commands.Schedule (calls.Advance now)) ws rest range said =
-    absurd (apart (codes "link") (codes "advance") ws _ refl said)
-only_link (commands.Schedule calls.Next) ws rest range said =
-    absurd (apart (codes "link") (codes "next") ws _ refl said)
+only_link (commands.Schedule (calls.Advance now)) ws rest range said = absurd (apart refl said)
+only_link (commands.Schedule calls.Next) ws rest range said = absurd (apart refl said)
 
 only_limit : AreOfName command_words IsCommandInRange (codes "limit") limit_of
 only_limit (commands.Schedule (calls.Limit now peer egress ingress)) ws rest range said =
     ((now, (peer, (egress, ingress))), refl)
-only_limit (commands.Flow f) ws rest range said = absurd (apart (codes "limit") (codes "flow") ws _ refl said)
-only_limit (commands.Egress peer cap) ws rest range said =
-    absurd (apart (codes "limit") (codes "egress") ws _ refl said)
-only_limit (commands.Ingress peer cap) ws rest range said =
-    absurd (apart (codes "limit") (codes "ingress") ws _ refl said)
-only_limit (commands.Link origin recipient cap) ws rest range said =
-    absurd (apart (codes "limit") (codes "link") ws _ refl said)
-only_limit commands.Rates ws rest range said = absurd (apart (codes "limit") (codes "rates") ws _ refl said)
-only_limit (commands.Network (lines.Hop flow hop)) ws rest range said =
-    absurd (apart (codes "limit") (codes "hop") ws _ refl said)
-only_limit (commands.Network (lines.Cap at cap)) ws rest range said =
-    absurd (apart (codes "limit") (codes "cap") ws _ refl said)
-only_limit (commands.Network (lines.Weight flow weight)) ws rest range said =
-    absurd (apart (codes "limit") (codes "weight") ws _ refl said)
-only_limit commands.Routes ws rest range said = absurd (apart (codes "limit") (codes "routes") ws _ refl said)
-only_limit (commands.Schedule (calls.LimitLink now origin recipient cap)) ws rest range said =
-    absurd (apart (codes "limit") (codes "limitlink") ws _ refl said)
-only_limit (commands.Schedule (calls.Enqueue now origin recipient channel length latency should_deliver)) ws rest
-    range said =
-    absurd (apart (codes "limit") (codes "enqueue") ws _ refl said)
+only_limit (commands.Flow f) ws rest range said = absurd (apart refl said)
+only_limit (commands.Egress peer cap) ws rest range said = absurd (apart refl said)
+only_limit (commands.Ingress peer cap) ws rest range said = absurd (apart refl said)
+only_limit (commands.Link origin recipient cap) ws rest range said = absurd (apart refl said)
+only_limit commands.Rates ws rest range said = absurd (apart refl said)
+only_limit (commands.Network (lines.Hop flow hop)) ws rest range said = absurd (apart refl said)
+only_limit (commands.Network (lines.Cap at cap)) ws rest range said = absurd (apart refl said)
+only_limit (commands.Network (lines.Weight flow weight)) ws rest range said = absurd (apart refl said)
+only_limit commands.Routes ws rest range said = absurd (apart refl said)
+only_limit (commands.Schedule (calls.LimitLink now origin recipient cap)) ws rest range said = absurd (apart refl said)
+only_limit (commands.Schedule (calls.Enqueue _ _ _ _ _ _ _)) ws rest range said = absurd (apart refl said)
 only_limit (commands.Schedule (calls.EnqueueAll now messages)) ws rest range said = absurd range
-only_limit (commands.Schedule (calls.Advance now)) ws rest range said =
-    absurd (apart (codes "limit") (codes "advance") ws _ refl said)
-only_limit (commands.Schedule calls.Next) ws rest range said =
-    absurd (apart (codes "limit") (codes "next") ws _ refl said)
+only_limit (commands.Schedule (calls.Advance now)) ws rest range said = absurd (apart refl said)
+only_limit (commands.Schedule calls.Next) ws rest range said = absurd (apart refl said)
 
 only_limit_link : AreOfName command_words IsCommandInRange (codes "limitlink") limit_link_of
 only_limit_link (commands.Schedule (calls.LimitLink now origin recipient cap)) ws rest range said =
     ((now, (origin, (recipient, cap))), refl)
-only_limit_link (commands.Flow f) ws rest range said = absurd (apart (codes "limitlink") (codes "flow") ws _ refl said)
-only_limit_link (commands.Egress peer cap) ws rest range said =
-    absurd (apart (codes "limitlink") (codes "egress") ws _ refl said)
-only_limit_link (commands.Ingress peer cap) ws rest range said =
-    absurd (apart (codes "limitlink") (codes "ingress") ws _ refl said)
-only_limit_link (commands.Link origin recipient cap) ws rest range said =
-    absurd (apart (codes "limitlink") (codes "link") ws _ refl said)
-only_limit_link commands.Rates ws rest range said = absurd (apart (codes "limitlink") (codes "rates") ws _ refl said)
-only_limit_link (commands.Network (lines.Hop flow hop)) ws rest range said =
-    absurd (apart (codes "limitlink") (codes "hop") ws _ refl said)
-only_limit_link (commands.Network (lines.Cap at cap)) ws rest range said =
-    absurd (apart (codes "limitlink") (codes "cap") ws _ refl said)
-only_limit_link (commands.Network (lines.Weight flow weight)) ws rest range said =
-    absurd (apart (codes "limitlink") (codes "weight") ws _ refl said)
-only_limit_link commands.Routes ws rest range said = absurd (apart (codes "limitlink") (codes "routes") ws _ refl said)
-only_limit_link (commands.Schedule (calls.Limit now peer egress ingress)) ws rest range said =
-    absurd (apart (codes "limitlink") (codes "limit") ws _ refl said)
-only_limit_link (commands.Schedule (calls.Enqueue now origin recipient channel length latency should_deliver)) ws rest
-    range said =
-    absurd (apart (codes "limitlink") (codes "enqueue") ws _ refl said)
+only_limit_link (commands.Flow f) ws rest range said = absurd (apart refl said)
+only_limit_link (commands.Egress peer cap) ws rest range said = absurd (apart refl said)
+only_limit_link (commands.Ingress peer cap) ws rest range said = absurd (apart refl said)
+only_limit_link (commands.Link origin recipient cap) ws rest range said = absurd (apart refl said)
+only_limit_link commands.Rates ws rest range said = absurd (apart refl said)
+only_limit_link (commands.Network (lines.Hop flow hop)) ws rest range said = absurd (apart refl said)
+only_limit_link (commands.Network (lines.Cap at cap)) ws rest range said = absurd (apart refl said)
+only_limit_link (commands.Network (lines.Weight flow weight)) ws rest range said = absurd (apart refl said)
+only_limit_link commands.Routes ws rest range said = absurd (apart refl said)
+only_limit_link (commands.Schedule (calls.Limit now peer egress ingress)) ws rest range said = absurd (apart refl said)
+only_limit_link (commands.Schedule (calls.Enqueue _ _ _ _ _ _ _)) ws rest range said = absurd (apart refl said)
 only_limit_link (commands.Schedule (calls.EnqueueAll now messages)) ws rest range said = absurd range
-only_limit_link (commands.Schedule (calls.Advance now)) ws rest range said =
-    absurd (apart (codes "limitlink") (codes "advance") ws _ refl said)
-only_limit_link (commands.Schedule calls.Next) ws rest range said =
-    absurd (apart (codes "limitlink") (codes "next") ws _ refl said)
+only_limit_link (commands.Schedule (calls.Advance now)) ws rest range said = absurd (apart refl said)
+only_limit_link (commands.Schedule calls.Next) ws rest range said = absurd (apart refl said)
 
 into_columns : (m : MessageColumns) → IsCommandInRange (enqueue_of m) → IsMessageIn m
 into_columns m r = (r.0, (r.1, (r.2, (r.3, (r.4, (r.5, tt))))))
@@ -316,30 +284,20 @@ only_enqueue : AreOfName command_words IsCommandInRange (codes "enqueue") enqueu
 only_enqueue (commands.Schedule (calls.Enqueue now origin recipient channel length latency should_deliver)) ws rest
     range said =
     ((now, (origin, (recipient, (channel, (length, (latency, should_deliver)))))), refl)
-only_enqueue (commands.Flow f) ws rest range said = absurd (apart (codes "enqueue") (codes "flow") ws _ refl said)
-only_enqueue (commands.Egress peer cap) ws rest range said =
-    absurd (apart (codes "enqueue") (codes "egress") ws _ refl said)
-only_enqueue (commands.Ingress peer cap) ws rest range said =
-    absurd (apart (codes "enqueue") (codes "ingress") ws _ refl said)
-only_enqueue (commands.Link origin recipient cap) ws rest range said =
-    absurd (apart (codes "enqueue") (codes "link") ws _ refl said)
-only_enqueue commands.Rates ws rest range said = absurd (apart (codes "enqueue") (codes "rates") ws _ refl said)
-only_enqueue (commands.Network (lines.Hop flow hop)) ws rest range said =
-    absurd (apart (codes "enqueue") (codes "hop") ws _ refl said)
-only_enqueue (commands.Network (lines.Cap at cap)) ws rest range said =
-    absurd (apart (codes "enqueue") (codes "cap") ws _ refl said)
-only_enqueue (commands.Network (lines.Weight flow weight)) ws rest range said =
-    absurd (apart (codes "enqueue") (codes "weight") ws _ refl said)
-only_enqueue commands.Routes ws rest range said = absurd (apart (codes "enqueue") (codes "routes") ws _ refl said)
-only_enqueue (commands.Schedule (calls.Limit now peer egress ingress)) ws rest range said =
-    absurd (apart (codes "enqueue") (codes "limit") ws _ refl said)
-only_enqueue (commands.Schedule (calls.LimitLink now origin recipient cap)) ws rest range said =
-    absurd (apart (codes "enqueue") (codes "limitlink") ws _ refl said)
+only_enqueue (commands.Flow f) ws rest range said = absurd (apart refl said)
+only_enqueue (commands.Egress peer cap) ws rest range said = absurd (apart refl said)
+only_enqueue (commands.Ingress peer cap) ws rest range said = absurd (apart refl said)
+only_enqueue (commands.Link origin recipient cap) ws rest range said = absurd (apart refl said)
+only_enqueue commands.Rates ws rest range said = absurd (apart refl said)
+only_enqueue (commands.Network (lines.Hop flow hop)) ws rest range said = absurd (apart refl said)
+only_enqueue (commands.Network (lines.Cap at cap)) ws rest range said = absurd (apart refl said)
+only_enqueue (commands.Network (lines.Weight flow weight)) ws rest range said = absurd (apart refl said)
+only_enqueue commands.Routes ws rest range said = absurd (apart refl said)
+only_enqueue (commands.Schedule (calls.Limit now peer egress ingress)) ws rest range said = absurd (apart refl said)
+only_enqueue (commands.Schedule (calls.LimitLink now origin recipient cap)) ws rest range said = absurd (apart refl said)
 only_enqueue (commands.Schedule (calls.EnqueueAll now messages)) ws rest range said = absurd range
-only_enqueue (commands.Schedule (calls.Advance now)) ws rest range said =
-    absurd (apart (codes "enqueue") (codes "advance") ws _ refl said)
-only_enqueue (commands.Schedule calls.Next) ws rest range said =
-    absurd (apart (codes "enqueue") (codes "next") ws _ refl said)
+only_enqueue (commands.Schedule (calls.Advance now)) ws rest range said = absurd (apart refl said)
+only_enqueue (commands.Schedule calls.Next) ws rest range said = absurd (apart refl said)
 
 -- the columns behind the word are a command, and where some column is missing there is none
 module _ {w1 w2 : List (List ℕ)} where
@@ -397,13 +355,13 @@ weighing_of x = lines.Weight x.0 x.1
 
 only_hop : AreOfName network_words IsNetworkLineInRange (codes "hop") hop_of
 only_hop (lines.Hop flow link) ws rest range said = ((flow, link), refl)
-only_hop (lines.Cap link cap) ws rest range said = absurd (apart (codes "hop") (codes "cap") ws _ refl said)
-only_hop (lines.Weight flow weight) ws rest range said = absurd (apart (codes "hop") (codes "weight") ws _ refl said)
+only_hop (lines.Cap link cap) ws rest range said = absurd (apart refl said)
+only_hop (lines.Weight flow weight) ws rest range said = absurd (apart refl said)
 
 only_weight : AreOfName network_words IsNetworkLineInRange (codes "weight") weighing_of
 only_weight (lines.Weight flow weight) ws rest range said = ((flow, weight), refl)
-only_weight (lines.Hop flow link) ws rest range said = absurd (apart (codes "weight") (codes "hop") ws _ refl said)
-only_weight (lines.Cap link cap) ws rest range said = absurd (apart (codes "weight") (codes "cap") ws _ refl said)
+only_weight (lines.Hop flow link) ws rest range said = absurd (apart refl said)
+only_weight (lines.Cap link cap) ws rest range said = absurd (apart refl said)
 
 module _ {w0 w1 w2 : List (List ℕ)} where
   pub takes_hop : w0 ≡ codes "hop" ∷ w1 → (answer : Option (ℕ × ℕ)) → Takes hop_words IsHopIn w1 answer w2

@@ -183,11 +183,12 @@ AreWords [] = Unit {0}
 AreWords (w ∷ ws) = IsWord w × AreWords ws
 
 -- words that are joined by spaces are the parts of the line
-parts_of-join : (w : List ℕ) (ws : List (List ℕ)) → AreWords (w ∷ ws) → parts_of (join_with_byte 32 (w ∷ ws)) ≡ w ∷ ws
-parts_of-join w [] are = slice_split_none (λ b. eqb b 32) w (no_space w are.0)
-parts_of-join w (v ∷ ws) are =
+parts_of-join : (ws : List (List ℕ)) → AreWords ws → 0 < length ws → parts_of (join_with_byte 32 ws) ≡ ws
+parts_of-join [] are some = absurd (omega arith)
+parts_of-join (w ∷ []) are some = slice_split_none (λ b. eqb b 32) w (no_space w are.0)
+parts_of-join (w ∷ v ∷ ws) are some =
     slice_split_at (λ b. eqb b 32) w 32 (join_with_byte 32 (v ∷ ws)) (no_space w are.0) (eq-eqb 32 32 refl)
-    ∙ ap (λ parts. w ∷ parts) (parts_of-join v ws are.1)
+    ∙ ap (λ parts. w ∷ parts) (parts_of-join (v ∷ ws) are.1 (omega arith))
 
 -- a name and the words behind its space are the parts of the line
 pub named_parts : (name line : List ℕ) (rest : List (List ℕ)) → IsWord name → rest ≡ parts_of line
@@ -202,61 +203,36 @@ IsWord-small n small = IsWord-number n (omega (arith, small))
 IsWord-small_cap : (cap : Option ℕ) → IsSmallCapInRange cap → IsWord (cap_word cap)
 IsWord-small_cap cap range = IsWord-cap cap (wider cap range)
 
+-- one and more
+before : {A B : Type 0} → A → B → A × B
+before one more = (one, more)
+
 -- what calls are written with is words
 AreWords-call : (call : Call ℕ ℕ) → IsCallOfScriptInRange call → AreWords (call_words call)
-AreWords-call (calls.Limit now peer egress ingress) range = (
-  refl,
-  (
-    IsWord-small now range.0,
-    (IsWord-small peer range.1, (IsWord-small_cap egress range.2, (IsWord-small_cap ingress range.3, tt))),
-  ),
-)
-AreWords-call (calls.LimitLink now origin recipient cap) range = (
-  refl,
-  (
-    IsWord-small now range.0,
-    (IsWord-small origin range.1, (IsWord-small recipient range.2, (IsWord-small_cap cap range.3, tt))),
-  ),
-)
-AreWords-call (calls.Enqueue now origin recipient channel length latency should_deliver) range = (
-  refl,
-  (
-    IsWord-small now range.0,
-    (
-      IsWord-small origin range.1,
-      (
-        IsWord-small recipient range.2,
-        (
-          IsWord-small channel range.3,
-          (
-            IsWord-number length (omega (arith, range.4)),
-            (IsWord-small latency range.5, (IsWord-flag should_deliver, tt)),
-          ),
-        ),
-      ),
-    ),
-  ),
-)
+AreWords-call (calls.Limit now peer egress ingress) range =
+    before refl (before (IsWord-small now range.0) (before (IsWord-small peer range.1)
+    (before (IsWord-small_cap egress range.2) (before (IsWord-small_cap ingress range.3) tt))))
+AreWords-call (calls.LimitLink now origin recipient cap) range =
+    before refl (before (IsWord-small now range.0) (before (IsWord-small origin range.1)
+    (before (IsWord-small recipient range.2) (before (IsWord-small_cap cap range.3) tt))))
+AreWords-call (calls.Enqueue now origin recipient channel length latency should_deliver) range =
+    before refl (before (IsWord-small now range.0) (before (IsWord-small origin range.1)
+    (before (IsWord-small recipient range.2) (before (IsWord-small channel range.3)
+    (before (IsWord-number length (omega (arith, range.4))) (before (IsWord-small latency range.5)
+    (before (IsWord-flag should_deliver) tt)))))))
 AreWords-call (calls.EnqueueAll now messages) range = absurd range
-AreWords-call (calls.Advance now) range = (refl, (IsWord-small now range, tt))
-AreWords-call calls.Next range = (refl, tt)
+AreWords-call (calls.Advance now) range = before refl (before (IsWord-small now range) tt)
+AreWords-call calls.Next range = before refl tt
 
 -- what commands are written with is words
 AreWords-command : (command : Command) → IsCommandInRange command → AreWords (command_words command)
-AreWords-command (commands.Flow f) range = (
-  refl,
-  (
-    IsWord-number f.id (omega (arith, range.0)),
-    (
-      IsWord-number f.origin (omega (arith, range.1)),
-      (IsWord-number f.recipient (omega (arith, range.2)), (IsWord-flag f.delivered, tt)),
-    ),
-  ),
-)
+AreWords-command (commands.Flow f) range =
+    before refl (before (IsWord-small f.id range.0) (before (IsWord-small f.origin range.1)
+    (before (IsWord-small f.recipient range.2) (before (IsWord-flag f.delivered) tt))))
 AreWords-command (commands.Egress peer cap) range =
-    (refl, (IsWord-number peer (omega (arith, range.0)), (IsWord-cap cap range.1, tt)))
+    before refl (before (IsWord-small peer range.0) (before (IsWord-cap cap range.1) tt))
 AreWords-command (commands.Ingress peer cap) range =
-    (refl, (IsWord-number peer (omega (arith, range.0)), (IsWord-cap cap range.1, tt)))
+    before refl (before (IsWord-small peer range.0) (before (IsWord-cap cap range.1) tt))
 AreWords-command (commands.Link origin recipient cap) range =
     (refl, (IsWord-small origin range.0, (IsWord-small recipient range.1, (IsWord-cap cap range.2, tt))))
 AreWords-command commands.Rates range = (refl, tt)
@@ -309,37 +285,10 @@ takes_no_text before after left word is no_text =
           (has_words command range) (sym is ∙ said)));
     }
 
--- the parts of the line of a call are its words
-parts_of-call : (call : Call ℕ ℕ) → IsCallOfScriptInRange call
-    → parts_of (join_with_byte 32 (call_words call)) ≡ call_words call
-parts_of-call (calls.Limit now peer egress ingress) range =
-    parts_of-join _ _ (AreWords-call (calls.Limit now peer egress ingress) range)
-parts_of-call (calls.LimitLink now origin recipient cap) range =
-    parts_of-join _ _ (AreWords-call (calls.LimitLink now origin recipient cap) range)
-parts_of-call (calls.Enqueue now origin recipient channel length latency should_deliver) range =
-    parts_of-join _ _ (AreWords-call (calls.Enqueue now origin recipient channel length latency should_deliver) range)
-parts_of-call (calls.EnqueueAll now messages) range = absurd range
-parts_of-call (calls.Advance now) range = parts_of-join _ _ (AreWords-call (calls.Advance now) range)
-parts_of-call calls.Next range = parts_of-join _ _ (AreWords-call calls.Next range)
-
 -- the parts of the line of a command are its words
 parts_of-line_of : (command : Command) → IsCommandInRange command → parts_of (line_of command) ≡ command_words command
-parts_of-line_of (commands.Flow f) range = parts_of-join _ _ (AreWords-command (commands.Flow f) range)
-parts_of-line_of (commands.Egress peer cap) range =
-    parts_of-join _ _ (AreWords-command (commands.Egress peer cap) range)
-parts_of-line_of (commands.Ingress peer cap) range =
-    parts_of-join _ _ (AreWords-command (commands.Ingress peer cap) range)
-parts_of-line_of (commands.Link origin recipient cap) range =
-    parts_of-join _ _ (AreWords-command (commands.Link origin recipient cap) range)
-parts_of-line_of commands.Rates range = parts_of-join _ _ (AreWords-command commands.Rates range)
-parts_of-line_of (commands.Network (lines.Hop flow link)) range =
-    parts_of-join _ _ (AreWords-command (commands.Network (lines.Hop flow link)) range)
-parts_of-line_of (commands.Network (lines.Cap link cap)) range =
-    parts_of-join _ _ (AreWords-command (commands.Network (lines.Cap link cap)) range)
-parts_of-line_of (commands.Network (lines.Weight flow weight)) range =
-    parts_of-join _ _ (AreWords-command (commands.Network (lines.Weight flow weight)) range)
-parts_of-line_of commands.Routes range = parts_of-join _ _ (AreWords-command commands.Routes range)
-parts_of-line_of (commands.Schedule call) range = parts_of-call call range
+parts_of-line_of command range =
+    parts_of-join (command_words command) (AreWords-command command range) (has_words command range)
 
 -- ---- what a line says
 

@@ -1,7 +1,8 @@
 //! Scripts of flows and caps, run line by line.
-ghost use Rattle.std.specs.Prelude.{◌≡◌, ◌<◌, Some, IfOk, IfSome, length};
+ghost use Rattle.std.specs.Prelude.{◌≡◌, ◌<◌, Some, IfOk, IfSome, IsTrue, false, length, take};
 ghost use Rattle.link_scripts.specs.BadLines.{Blames};
-ghost use Rattle.link_scripts.specs.Lines.{IsLengthOf};
+ghost use Rattle.std.specs.Io.Buffered.{reader_buffer};
+ghost use Rattle.link_scripts.specs.Lines.{IsLengthOf, IsLineAhead, IsTaken};
 ghost use Rattle.link_scripts.specs.Outcome.{status_of, outcome_text, CountsFromOne};
 
 pub mod answer;
@@ -19,7 +20,7 @@ use crate::linkrun::gathered::Gathered;
 use crate::linkrun::line::LineEnd;
 use crate::linkrun::session::Session;
 use std::alloc::Global;
-use std::io::{BufReader, BufWriter, Read, Write};
+use std::io::{BufRead, BufReader, BufWriter, Read, Write};
 use std::{fmt, io};
 
 /// How the run of a script came to its end.
@@ -84,9 +85,8 @@ pub fn run<R: Read, W: Write>(alloc: Global, input: &mut R, output: &mut W) -> O
     run_keeping_line(alloc, input, output, &mut line)
 }
 
-/// Does what `run` does, and leaves in `line` the line that was read last, without its end byte, in
-/// the place of what it held. Where the outcome is `BadLine` that is the bad one, or its first 257
-/// bytes.
+/// Does what `run` does. Where the outcome is `BadLine`, the bad line is left in `line`, without its
+/// end byte, or its first 257 bytes. Else what `line` holds is of no meaning.
 pub fn run_keeping_line<R: Read, W: Write>(
     alloc: Global,
     input: &mut R,
@@ -164,6 +164,11 @@ fn run_line<R: Read, W: Write + Drop>(
     ensures counted { IfOk result (λ outcome. IfSome outcome CountsFromOne) }
     ensures bad { IfOk result (λ outcome. IfSome outcome (λ outcome. Blames outcome line.new.items)) }
 {
+    if let Some(length) = line::length_ahead(input) {
+        if length <= line::MOST_BYTES && run_ahead(session, gathered, input, output, length)? {
+            return Ok(None);
+        }
+    }
     let end = read_next(session, gathered, input, output, line)?;
     if end == LineEnd::TooLong {
         return Ok(Some(Outcome::BadLine(number)));
@@ -178,6 +183,30 @@ fn run_line<R: Read, W: Write + Drop>(
         return Ok(Some(Outcome::Whole));
     }
     Ok(None)
+}
+
+/// Runs the next line, which has so many bytes and was read ahead with its end byte, and answers
+/// whether it is of the language. If it is not, nothing is done.
+fn run_ahead<R: Read, W: Write + Drop>(
+    session: &mut Session,
+    gathered: &mut Gathered,
+    input: &mut BufReader<R>,
+    output: &mut BufWriter<W>,
+    length: usize,
+) -> io::Result<bool>
+    requires { IsLineAhead (reader_buffer input.old) length }
+    ensures taken { IfOk result (λ is_run. IsTrue is_run
+        → IsTaken input.old (take length (reader_buffer input.old)) input.new) }
+    ensures bad { IfOk result (λ is_run. is_run ≡ false → input.new ≡ input.old) }
+{
+    if length > 0 {
+        let Some(command) = Command::parse(&input.buffer()[..length]) else {
+            return Ok(false);
+        };
+        gathered.perform(session, output, command)?;
+    }
+    input.consume(length + 1);
+    Ok(true)
 }
 
 /// Reads the next line. What is gathered is sent before `input` is asked for more.

@@ -52,7 +52,9 @@ pub enum NetworkLine {
 }
 
 impl Command {
-    /// The command that a line says, where the line is of the language. The most frequent ones are looked for first.
+    /// The command that a line says, where the line is of the language. The most frequent ones are
+    /// looked for first. It is inlined, so that a command is not copied on its way.
+    #[inline(always)]
     pub fn parse(line: &[u8]) -> Option<Command>
         ensures { (command : Command) → (result ≡ Some command)
             ↔ ((line.now ≡ line_of command) × IsCommandInRange command) }

@@ -36,6 +36,7 @@ impl Gathered {
 
     /// Does what a command says, after what is gathered, and prints what that answers. A message is
     /// only gathered: it is sent, and its answer printed, before anything else is.
+    #[inline(always)]
     pub(crate) fn perform<W: Write>(
         &mut self,
         session: &mut Session,

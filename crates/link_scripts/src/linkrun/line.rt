@@ -10,7 +10,7 @@ use std::io;
 use std::io::{BufRead, BufReader, BufWriter, Read, Write};
 
 /// The most bytes that a line has, its end byte not counted.
-const MOST_BYTES: usize = 256;
+pub(crate) const MOST_BYTES: usize = 256;
 
 /// The most bytes that are read of a line.
 pub const MOST_READ: usize = MOST_BYTES + 1;
