@@ -240,6 +240,10 @@ impl<P: Peer> Ledger<P> {
         ensures refused { IfErr result (IsRefusedFor (λ fault. Wakes P.cmp now (planned P.cmp self.old)
             (meets fault))) }
     {
+        if !self.is_ready(now) {
+            self.plan_start(now);
+            return Ok(());
+        }
         let ready = self.ready(now)?;
         for pair in &ready {
             let queue = self.launch(&pair.origin, &pair.recipient, now)?;

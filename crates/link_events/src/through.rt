@@ -1,5 +1,5 @@
 //! Messages that are done as they start: they are never in flight.
-ghost use Rattle.std.specs.Prelude.{◌≡◌, ◌<◌, ◌&&◌, true, false, Some, option_map, IfOk, IfErr, OnOk};
+ghost use Rattle.std.specs.Prelude.{◌≡◌, ◌<◌, ◌&&◌, ◌∷◌, [], length, true, false, Some, option_map, IfOk, IfErr, OnOk};
 ghost use Rattle.fairness.specs.Lists.WithoutFirst.{without_first};
 ghost use Rattle.fairness.specs.Sides.Subjects.{same_peer};
 ghost use Rattle.link_simulation.specs.Simulation.Messages.{Message as AnyMessage, with_link};
@@ -9,7 +9,7 @@ ghost use Rattle.link_pairs.specs.Pairs.Entries.{first_of};
 ghost use Rattle.link_waiting.specs.Idle.AtRest.{is_sending};
 ghost use Rattle.link_waiting.specs.Idle.FirstMoment.{first_moment};
 ghost use Rattle.link_waiting.specs.Idle.Waits.{since_of};
-ghost use Rattle.link_events.specs.Steps.Through.{FirstIsUnlimited, gone_through};
+ghost use Rattle.link_events.specs.Steps.Through.{FirstIsUnlimited, gone_through, IsPassed};
 
 use crate::ledger::Ledger;
 use crate::marks::give_up;
@@ -90,6 +90,29 @@ impl<P: Peer> Ledger<P> {
         }
     }
 
+    /// A message is done at an account at `now`, where nothing is in flight.
+    fn done_alone(
+        &mut self,
+        message: Arc<Message<P>>,
+        now: u64,
+    ) -> Result<VecDeque<Arc<Message<P>>>, Error>
+        requires { length self.old.flights.list.items ≡ 0 }
+        ensures done { IfOk result (λ done. messages done.items ≡ message_of message.value ∷ []) }
+        ensures passes { OnOk result (IsPassed now (planned P.cmp self.old) (planned P.cmp self.new)) }
+        ensures before { before_of self.new ≡ before_of self.old }
+        ensures refused { IfErr result (λ e. e ≡ Error.OutOfMemory) }
+    {
+        self.stale = true;
+        if let Err(error) = self.flights.drain(now) {
+            give_up(&mut self.flights, &mut self.waiting);
+            return Err(error);
+        }
+        self.finish = None;
+        let mut done = self.rooms.take_queue(self.alloc);
+        done.push_back(message)?;
+        Ok(done)
+    }
+
     /// The first message that waits for the pair, which is idle, starts, and is done at the account that follows, with others.
     pub(crate) fn let_through(
         &mut self,
@@ -107,6 +130,9 @@ impl<P: Peer> Ledger<P> {
         ensures refused { IfErr result (λ e. e ≡ Error.OutOfMemory) }
     {
         let message = self.take_through(origin, recipient)?;
+        if self.flights.is_empty() {
+            return self.done_alone(message, now);
+        }
         let (mut done, were_fair) = self.leave_at(now)?;
         done.push_back(message)?;
         self.rate(now, &done, were_fair)?;

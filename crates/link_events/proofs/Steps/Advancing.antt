@@ -83,9 +83,12 @@ module _ {P : Type 0} (cmp : P → P → Ordering) where
         by_test true is rest = absurd (none (m, firsts.0, is))
         by_test false is rest = rest
 
+    pub none_wake : (now : ℕ) (p q : Planned P) → ¬ SomeReadyAt cmp p now → PlansStart cmp now p q
+        → Wakes cmp now p (goes [] q)
+    none_wake now p q none looks =
+        subst (λ (ms : List (Message P)). WakesEach cmp now ms p (goes [] q))
+        (sym (none_pass now p (fronts cmp p.waiting) (fronts_are_first cmp order p.waiting) none)) (all_started looks)
+
     pub rests : (now : ℕ) (p q : Planned P) → HasNothingDue cmp p now → PlansStart cmp now p q
         → Advances cmp now p 0 (goes [] q)
-    rests now p q quiet looks =
-        no_more quiet.none_due (subst (λ (ms : List (Message P)). WakesEach cmp now ms p (goes [] q))
-        (sym (none_pass now p (fronts cmp p.waiting) (fronts_are_first cmp order p.waiting) quiet.none_ready))
-        (all_started looks))
+    rests now p q quiet looks = no_more quiet.none_due (none_wake now p q quiet.none_ready looks)

@@ -14,7 +14,9 @@ use Rattle.link_pairs.specs.declared.message.Message as code
 use Rattle.fairness.proofs.Lists.Members.{in_from_contains, in_either, contains_from_in}
 use Rattle.link_flights.specs.Flights.Rated.{sent_messages}
 use Rattle.link_flights.specs.Flights.RatedFlights.{rated_flight_of}
-use Rattle.link_events.specs.Steps.Through.{FirstIsUnlimited}
+use Rattle.link_events.specs.Steps.Through.{FirstIsUnlimited, IsPassed}
+use Rattle.link_simulation.proofs.Simulation.Continuing.{rates_exist}
+use Rattle.std.proofs.Common.{OnOk, None}
 use mathlib.Core.Path.{fun_ext}
 use Rattle.std.specs.Prelude.{◌+◌}
 use Rattle.link_waiting.proofs.Idle.Starting.{of_pair}
@@ -135,3 +137,44 @@ module _ {P : Type 0} (cmp : P → P → Ordering) where
             ];
         timed = h.timed;
       }
+
+-- where nothing stays in flight, no finish is planned
+accounts_none : {P : Type 0} (cmp : P → P → Ordering) → IsTotalOrder cmp → (t : ℕ) (old q : Planned P) (ls : List (Message P))
+    → Leaves cmp t old ls q → q.sending ≡ [] → Accounts cmp t old ls (record q { finish = None })
+accounts_none {P} cmp order t old q ls lv none =
+    let fair = rates_exist cmp order old.caps [] in
+    let stay = ap (λ (w : Planned P). w.sending) lv.is in
+    record {
+      per = fair.0;
+      rates = [];
+      left = lv.left;
+      stayed = rw (← stay) (rw none tt);
+      fair = rw none (record { parts = fair.2.parts; fair = fair.2.fair; rated = refl });
+      rated = rw none tt;
+      finish = λ s last some. let there = rw none at some.2 in cc;
+      same = ap (λ (w : Planned P). record w { finish = None }) lv.is
+          ∙ ap (λ (w : Planned P). record old { sending = w.sending; accounted = t; finish = None }) (sym lv.is);
+    }
+
+module _ {P : Type 0} (cmp : P → P → Ordering) (order : IsTotalOrder cmp) (t : ℕ) (p : Planned P) (o r : P) (m : Message P)
+    (found : first_of cmp p.waiting o r ≡ Some m) (free : is_unlimited cmp p.caps m ≡ true) where
+  -- where nothing is in flight, it alone is done at the account
+  alone : (q : Planned P) → IsPassed t (gone_through cmp p m) q → Accounts cmp t (launched cmp t p m) (m ∷ []) q
+  alone q h =
+      let at : Planned P = record (gone_through cmp p m) { accounted = t } in
+      let leaves : Leaves cmp t (gone_through cmp p m) [] at =
+      record {
+        left = sym (ap (λ fs. rated_messages (filter (is_spent cmp p.caps) (drained_to t fs))) h.none);
+        is = ap (λ fs. record (gone_through cmp p m) { sending = fs; accounted = t })
+            (h.none ∙ sym (ap (λ fs. filter (λ f. not (is_spent cmp p.caps f)) (drained_to t fs)) h.none));
+      } in
+      subst (Accounts cmp t (launched cmp t p m) (m ∷ [])) (sym h.same)
+      (accounts_none cmp order t (launched cmp t p m) at (m ∷ []) (leaves_through cmp t p at m [] free leaves) h.none)
+
+  pub through_alone : {X : Type 0} (f : X → List (Message P)) (result : Result X Error) (new : Planned P)
+      → IfOk result (λ x. f x ≡ m ∷ []) → OnOk result (IsPassed t (gone_through cmp p m) new)
+      → IfOk result
+      (λ x. (n : Message P) × (first_of cmp p.waiting o r ≡ Some n) × Accounts cmp t (launched cmp t p n) (f x) new)
+  through_alone f (Ok x) new is h =
+      (m, found, subst (λ ls. Accounts cmp t (launched cmp t p m) ls new) (sym is) (alone new h))
+  through_alone f (Err e) new is h = tt

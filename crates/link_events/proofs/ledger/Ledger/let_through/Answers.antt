@@ -1,7 +1,8 @@
 use Rattle.link_events.proofs.Common.{◌≡◌, ◌∷◌, ◌++◌, [], true, List, sym, ap, ◌∙◌, subst, map-append, ∥∥₁_map, Message}
 use Rattle.link_events.proofs.Common.{is_unlimited, Planned, launched, Leaves, HadFairRates, message_of, messages}
-use Rattle.link_events.proofs.Common.{planned, gone_through}
-use Rattle.link_events.proofs.Steps.Through.{is_free, leaves_through, had_through}
+use Rattle.link_events.proofs.Common.{planned, gone_through, OnOk}
+use Rattle.link_events.specs.Steps.Through.{IsPassed}
+use Rattle.link_events.proofs.Steps.Through.{is_free, leaves_through, had_through, through_alone}
 use Rattle.link_events.proofs.ledger.Ledger.let_through.Given.{Over}
 use Rattle.link_events.proofs.ledger.Ledger.let_through.Goals as goal
 
@@ -65,3 +66,16 @@ returns-clause-accounts g c = (
   c.in_ok-rate.ensures.accounts (launched g.P.Ord.cmp c.args.now (p g c.before.before.before) (m g c.before.before.before))
       (messages c.push_back.new.self.items) (leaves g c.before.before.before),
 )
+
+pub returns-then-is_empty-clause-accounts : goal.returns-then-is_empty-clause-accounts
+returns-then-is_empty-clause-accounts g c =
+    let cmp = g.P.Ord.cmp in
+    let p = planned cmp c.args.self.now in
+    let o = c.args.origin.now in
+    let r = c.args.recipient.now in
+    let m = message_of c.in_ok-message.message.value in
+    through_alone cmp g.met.P.Ord.total c.args.now p o r m c.in_ok-message.ensures.taken
+    (is_free cmp g.met.P.Ord.total p o r m c.in_ok-message.ensures.taken c.requires.first) (λ ms. messages ms.items)
+    c.done_alone.result (planned cmp c.done_alone.new.self) c.done_alone.ensures.done
+    (subst (λ (q : Planned g.row.P.Denot). OnOk c.done_alone.result (IsPassed c.args.now q (planned cmp c.done_alone.new.self)))
+    c.in_ok-message.ensures.gone c.done_alone.ensures.passes)

@@ -1,8 +1,9 @@
-use Rattle.link_events.proofs.Common.{map, List, [], Option, refl, sym, subst, ◌∙◌, AllZip, err_from_is_err_and}
+use Rattle.link_events.proofs.Common.{map, append-nil, List, [], Option, refl, sym, subst, ◌∙◌, AllZip, err_from_is_err_and}
 use Rattle.link_events.proofs.Common.{PeerPair, NamesPairOf, Message, goes, meets, Planned, next_of, Launches, Finishes}
 use Rattle.link_events.proofs.Common.{WakesEach, all_started, no_start, no_finish, starts_one, IsRefusedFor, planned}
 use Rattle.link_events.proofs.Common.{messages, ended_of}
 use Rattle.link_waiting.specs.Idle.Starting.{ready_messages}
+use Rattle.link_events.proofs.Steps.Advancing.{none_wake}
 use Rattle.link_events.proofs.Steps.Finishing.{next_at, none_at}
 use Rattle.link_events.proofs.Steps.SoFar.{none_so_far, step_so_far, all_so_far, refused_so_far}
 use Rattle.link_events.proofs.Steps.Settling.{of_message}
@@ -74,11 +75,20 @@ loop-pair-preserved g c =
 pub returns-clause-wakes : goal.returns-clause-wakes
 returns-clause-wakes g c =
     let at = c.loop-pair.invariant.at in
-    let new = planned g.P.Ord.cmp c.plan_start.new.self in (
+    let new = planned g.P.Ord.cmp c.plan_start-2.new.self in (
       at.so.done,
       at.so.out,
       all_so_far at.so new
           (subst (λ (ms : List (Message g.row.P.Denot)). WakesEach g.P.Ord.cmp c.args.now ms
           (planned g.P.Ord.cmp c.loop-pair.self) (goes [] new))
-          (sym (none_at g.P.Ord.cmp at c.loop-pair-test.false)) (all_started c.plan_start.ensures.plans)),
+          (sym (none_at g.P.Ord.cmp at c.loop-pair-test.false)) (all_started c.plan_start-2.ensures.plans)),
     )
+
+pub returns-then-not-is_ready-clause-wakes : goal.returns-then-not-is_ready-clause-wakes
+returns-then-not-is_ready-clause-wakes g c = (
+  [],
+  sym (append-nil (map ended_of c.args.ended.now.items)),
+  none_wake g.P.Ord.cmp g.met.P.Ord.total c.args.now (planned g.P.Ord.cmp c.args.self.now)
+      (planned g.P.Ord.cmp c.plan_start.new.self)
+      (λ some. let ready = c.is_ready.ensures.ready.1 some in let none = c.if-not-is_ready.true in cc) c.plan_start.ensures.plans,
+)
