@@ -85,7 +85,7 @@ module _ {P : Type 0} (cmp : P → P → Ordering) (order : IsTotalOrder cmp) wh
       waits = of_pair cmp k p.waiting
 
       own_first : same_pair cmp k m ≡ true → waits ≡ m ∷ rest_of waits
-      own_first own = grind (arith, find_like, find_passes, headed, waits, head_found)
+      own_first own = grind (arith, find_like, find_passes, headed, head_found)
 
       own_idle : same_pair cmp k m ≡ true → flying ≡ []
       own_idle own = grind (arith, filter_nothing, same_pair, any_like, idle_if_may)

@@ -135,7 +135,7 @@ module _ {P : Type 0} (cmp : P → P → Ordering) (order : IsTotalOrder cmp) (i
             last_arrival = raised cmp last m (once_at (last m.origin m.recipient) now m);
           })))
       by_late true = tt
-      by_late false = grind (arith, once, at_same, raised, once_at, raised_within, goes_alike, alike)
+      by_late false = grind (arith, at_same, raised, once_at, raised_within, goes_alike, alike)
 
       at_once : Of (complete_at_once cmp now w m) (complete_at_once cmp now (Small last id w) m)
       at_once = by_late _
@@ -187,7 +187,7 @@ module _ {P : Type 0} (cmp : P → P → Ordering) (order : IsTotalOrder cmp) (i
           })))
           (goes [] (Small last id w))
       by_late true = tt
-      by_late false = grind (arith, once, once_at, raised_within, goes_alike, alike)
+      by_late false = grind (arith, once_at, raised_within, goes_alike, alike)
 
       at_once : Of (complete_at_once cmp now w m) (goes [] (Small last id w))
       at_once = by_late _

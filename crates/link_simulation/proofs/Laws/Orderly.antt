@@ -181,11 +181,11 @@ module _ {P : Type 0} (cmp : P → P → Ordering) (order : IsTotalOrder cmp) wh
 
   pub limited_by_alike : (caps : Caps P) (peer : P) (egress ingress : Option ℕ) → CapsAlike cmp caps caps
       → CapsAlike cmp (limited_by cmp caps peer egress ingress) (limited_by cmp caps peer egress ingress)
-  limited_by_alike caps peer egress ingress h = grind (arith, limited_by_same, caps, same_itself)
+  limited_by_alike caps peer egress ingress h = grind (arith, limited_by_same, same_itself)
 
   pub linked_by_alike : (caps : Caps P) (origin recipient : P) (cap : Option ℕ) → CapsAlike cmp caps caps
       → CapsAlike cmp (linked_by cmp caps origin recipient cap) (linked_by cmp caps origin recipient cap)
-  linked_by_alike caps origin recipient cap h = grind (arith, linked_by_same, caps, same_itself)
+  linked_by_alike caps origin recipient cap h = grind (arith, linked_by_same, same_itself)
 
   call_orderly : (p : Planned P) (call : Call P) (c : Course (Completed P) (Planned P)) → Obeys cmp p call c
       → IsOrderly cmp p → EndsWith (IsOrderly cmp) c

@@ -99,7 +99,7 @@ module _ {P : Type 0} (cmp : P → P → Ordering) (order : IsTotalOrder cmp) (k
       none_flies = grind arith
 
       all_done : filter (same_pair cmp k) messages ≡ h.done
-      all_done = grind (arith, waits, none_flies, same_pair, append-nil)
+      all_done = grind (arith, none_flies, same_pair, append-nil)
 
       own_last : same_pair cmp k m ≡ true → last cmp order k after ≡ Some (later_of (last cmp order k w) at)
       own_last own = grind (arith, pair_sym)

@@ -388,7 +388,7 @@ module _ {P : Type 0} (cmp : P → P → Ordering) (order : IsTotalOrder cmp) (k
 
     turn_goes : (cs : List (Completed P)) (w : World P) (m : Message P) → least_pair cmp (ready cmp t w) ≡ Some m
         → IsHistory messages t cs w → GoesByRule cs (turn cmp t w m)
-    turn_goes cs w m e h = grind (arith, ready_may, m, goes_then, start, start_goes, settle_goes)
+    turn_goes cs w m e h = grind (arith, ready_may, goes_then, start, start_goes, settle_goes)
 
     wake_within_goes : (n : ℕ) (cs : List (Completed P)) (w : World P) → IsHistory messages t cs w
         → GoesByRule cs (wake_within cmp n t w)

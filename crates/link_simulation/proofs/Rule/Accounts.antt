@@ -136,7 +136,7 @@ module _ {P : Type 0} (cmp : P → P → Ordering) (order : IsTotalOrder cmp) wh
   }
     where
       still_empty : (old.sending ≡ []) × (old.waiting ≡ []) → (new.sending ≡ []) × (new.waiting ≡ [])
-      still_empty (sends, waits) = grind (arith, none_matched)
+      still_empty (sends) = grind (arith, none_matched)
 
       stays : List (RatedFlight P)
       stays = filter (λ (f : RatedFlight P). not (is_spent cmp old.caps f)) (drained_to t old.sending)

@@ -76,7 +76,7 @@ module _ {P : Type 0} (cmp : P → P → Ordering) (order : IsTotalOrder cmp) wh
   }
     where
       still_empty : (p.sending ≡ []) × (p.waiting ≡ []) → (q.sending ≡ []) × (q.waiting ≡ [])
-      still_empty (sends, waits) = grind (arith, none_same)
+      still_empty (sends) = grind (arith, none_same)
 
   pub stands_same : (p q : Planned P) (w : World P) → IsSamePlanned cmp p q → StandsFor cmp p w → StandsFor cmp q w
   stands_same p q w same stands =

@@ -228,7 +228,7 @@ module _ {P : Type 0} (cmp : P → P → Ordering) (order : IsTotalOrder cmp) wh
   cap_peerwise : (caps : P → Option ℕ) (peer : P) (cap : Option ℕ)
       → ((p q : P) → same_peer cmp p q ≡ true → caps p ≡ caps q) → (p q : P) → same_peer cmp p q ≡ true
       → with_cap cmp caps peer cap p ≡ with_cap cmp caps peer cap q
-  cap_peerwise caps peer cap h p q e = grind (arith, caps, peer_alike)
+  cap_peerwise caps peer cap h p q e = grind (arith, peer_alike)
 
   link_peerwise : (links : P → P → Option ℕ) (origin recipient : P) (cap : Option ℕ) → PairsAlike cmp links links
       → PairsAlike cmp (with_link cmp links origin recipient cap) (with_link cmp links origin recipient cap)
