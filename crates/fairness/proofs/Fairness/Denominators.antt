@@ -96,12 +96,11 @@ unfolding multiple_from
 has_each k [] i l = absurd (omega arith)
 has_each k (d ∷ ds) zero l =
     let e : k * d ≡ (k + 0) * d = omega arith in
-    subst (λ n. n ∣ lcm (k * d) (multiple_from (suc k) ds)) e (lcm-left (k * d) (multiple_from (suc k) ds))
+    subst (λ n. n ∣ lcm (k * d) (multiple_from (suc k) ds)) e (lcm-left (k * d) _)
 has_each k (d ∷ ds) (suc i) l =
     let e : suc k + i ≡ k + suc i = omega arith in
-    dvd_trans ((k + suc i) * get_or ds i 0)
-    (subst (λ n. n * get_or ds i 0 ∣ multiple_from (suc k) ds) e (has_each (suc k) ds i (omega arith)))
-    (lcm-right (k * d) (multiple_from (suc k) ds))
+    dvd_trans _ (subst (λ n. n * get_or ds i 0 ∣ multiple_from (suc k) ds) e (has_each (suc k) ds i (omega arith)))
+    (lcm-right (k * d) _)
 
 multiple-pos : (k : ℕ) (ds : List ℕ) → 0 < k → All (λ d. 0 < d) ds → 0 < multiple_from k ds
 unfolding multiple_from
@@ -194,9 +193,8 @@ entry_divides : (fuel n : ℕ) → n < fuel → (m : ℕ) → IsMultipleOfAll n 
 entry_divides zero n enough m h = absurd (omega arith)
 entry_divides (suc fuel) zero enough m h = rw of_none (one-dvd m)
 entry_divides (suc fuel) (suc n) enough m h =
-    rw of_more (divides_each 1 (entries n) m (omega arith) (all_positive n)
-    (λ i l. by_place i (omega (arith, length_entries n))
-    (λ j le. entry_divides fuel (n - j) (omega arith) (m / (1 + j)))))
+    rw of_more (divides_each 1 (entries n) m (omega arith) (all_positive n) (λ i l. by_place i
+    (omega (arith, length_entries n)) (λ j le. entry_divides fuel (n - j) (omega arith) _)))
   where
     by_place : (i : ℕ) → i ≤ n
         → ((j : ℕ) → j ≤ n → IsMultipleOfAll (n - j) (m / (1 + j)) → denominator_of (n - j) ∣ m / (1 + j))
@@ -205,7 +203,7 @@ entry_divides (suc fuel) (suc n) enough m h =
         let all : 1 + i + (n - i) ≡ suc n = omega arith in
         let rest = without_one (n - i) (1 + i) m (omega arith) (subst (λ j. IsMultipleOfAll j m) (sym all) h) in
         rw (entry_at n i le) (subst (λ j. (1 + i) * denominator_of (n - i) ∣ j) rest.0
-        (mul-dvd-mul_left (denominator_of (n - i)) (1 + i) (ih i le rest.1)))
+        (mul-dvd-mul_left _ (1 + i) (ih i le rest.1)))
 
 pub is_least_multiple : (n : ℕ) → IsLeastMultiple n (denominator_of n)
 is_least_multiple n = search (rules, positive, has_product, entry_divides)

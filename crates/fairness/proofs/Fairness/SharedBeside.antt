@@ -55,8 +55,7 @@ module _ {P X : Type 0} (cmp : P → P → Ordering) (caps : Caps P) (flow : X �
     -- one that keeps its rate was there before
     kept_before : (k : X) → In xs k → rated k ≡ false → In vs k
     kept_before k h off =
-        (from_filter (λ x. not (rated x)) vs k
-        (subst (λ (ks : List X). In ks k) (sym same) (in_filter (λ x. not (rated x)) xs k h (ap not off)))).0
+        (from_filter _ vs k (subst (λ (ks : List X). In ks k) (sym same) (in_filter _ xs k h (ap not off)))).0
 
     -- where none is limited that is rated, the total is that of those that keep their rates
     of_keeping : (s : Subject P) (ys : List X) → ((y : X) → In ys y → rated y ≡ true → limits cmp s (flow y) ≡ false)

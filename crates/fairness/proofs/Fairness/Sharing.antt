@@ -220,8 +220,7 @@ module _ {P X : Type 0} (cmp : P → P → Ordering) (caps : Caps P) (flow : X �
   pub total_same : (mine : X → Bool) (s : Subject P) (xs : List X)
       → ((x : X) → In xs x → limits cmp s (flow x) ≡ true → mine x ≡ true) → total s (filter mine xs) ≡ total s xs
   total_same mine s [] all = refl
-  total_same mine s (x ∷ xs) all =
-      by_test (mine x) (limits cmp s (flow x)) refl refl (total_same mine s xs (λ y h. all y (inr h)))
+  total_same mine s (x ∷ xs) all = by_test (mine x) _ refl refl (total_same mine s xs (λ y h. all y (inr h)))
     where
       by_test : (b l : Bool) → mine x ≡ b → limits cmp s (flow x) ≡ l → total s (filter mine xs) ≡ total s xs
           → total s (cond b (x ∷ filter mine xs) (filter mine xs)) ≡ total s (x ∷ xs)

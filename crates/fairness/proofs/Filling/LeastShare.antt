@@ -20,7 +20,7 @@ none_below : (a k b l : ℕ) → l ≡ 0 → a * l ≤ b * k
 none_below a k b l e = omega (arith, ap (λ n. a * n) e)
 
 pub least_of : {X : Type 0} (amount count : X → ℕ) (xs : List X) → All (λ x. count x ≡ 0) xs ⊎ IsLeastOf amount count xs
-least_of amount count [] = inl (All-nil (λ x. count x ≡ 0))
+least_of amount count [] = inl (All-nil _)
 least_of amount count (x ∷ xs) =
     let here : Contains (x ∷ xs) x = Contains-append_left (x ∷ []) xs x (0, omega arith, refl) in
     elim (least_of amount count xs) [
@@ -40,10 +40,8 @@ least_of amount count (x ∷ xs) =
           some = positive (amount l.least) (count x) (omega arith);
           below = All-cons (λ y. amount x * count y ≤ amount y * count x) x xs (le_refl (amount x * count x))
               (All-weaker (λ y. amount l.least * count y ≤ amount y * count l.least)
-              (λ y. amount x * count y ≤ amount y * count x)
-              (λ y le. at_most_trans (amount x) (count x) (amount l.least) (count l.least) (amount y) (count y) l.some
-              (omega arith) le)
-              xs l.below);
+              (λ y. amount x * count y ≤ amount y * count x) (λ y le. at_most_trans (amount x) (count x)
+              (amount l.least) (count l.least) (amount y) (count y) l.some (omega arith) le) xs l.below);
         })
         | inr le ↦ inr (record {
           least = l.least;

@@ -15,10 +15,9 @@ cap_over n m c =
     subst (λ k. denominator_of n ∣ k) e (dvd-mul_right (denominator_of n) (c * denominator_of m))
 
 pub sums : (n m : ℕ) (f : ℕ → ℕ) (xs : List ℕ) → ((x : ℕ) → IsOver n m (f x)) → IsOver n m (sum_by f xs)
-sums n m f [] h =
-    let e : 0 ≡ 0 * denominator_of m = omega arith in subst (λ k. denominator_of n ∣ k) e (dvd-zero (denominator_of n))
+sums n m f [] h = let e : 0 ≡ 0 * denominator_of m = omega arith in subst (λ k. denominator_of n ∣ k) e (dvd-zero _)
 sums n m f (x ∷ xs) h =
-    let both = dvd-add (denominator_of n) (h x) (sums n m f xs h) in
+    let both = dvd-add _ (h x) (sums n m f xs h) in
     let e : f x * denominator_of m + sum_by f xs * denominator_of m ≡ sum_by f (x ∷ xs) * denominator_of m =
     rw (sum_by-cons f x xs) (omega arith) in
     subst (λ k. denominator_of n ∣ k) e both

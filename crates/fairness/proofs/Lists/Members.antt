@@ -87,8 +87,7 @@ none_passes test (y ∷ ys) e x (inr h) = none_passes test ys (or_parts (test y)
 pub any_fails : {X : Type 0} (test : X → Bool) (xs : List X) → ((x : X) → In xs x → test x ≡ false)
     → list_any test xs ≡ false
 any_fails test [] h = refl
-any_fails test (y ∷ ys) h =
-    or_from (test y) (list_any test ys) (h y (inl refl)) (any_fails test ys (λ x g. h x (inr g)))
+any_fails test (y ∷ ys) h = or_from (test y) _ (h y (inl refl)) (any_fails test ys (λ x g. h x (inr g)))
 
 pub any_passes : {X : Type 0} (test : X → Bool) (xs : List X) (x : X) → In xs x → test x ≡ true
     → list_any test xs ≡ true
@@ -142,5 +141,4 @@ all_pass test (y ∷ xs) h x (inr among) = all_pass test xs (and_parts (test y) 
 pub all_passed : {X : Type 0} (test : X → Bool) (xs : List X) → ((x : X) → In xs x → test x ≡ true)
     → list_all test xs ≡ true
 all_passed test [] h = refl
-all_passed test (y ∷ xs) h =
-    and_from (test y) (list_all test xs) (h y (inl refl)) (all_passed test xs (λ x among. h x (inr among)))
+all_passed test (y ∷ xs) h = and_from (test y) _ (h y (inl refl)) (all_passed test xs (λ x among. h x (inr among)))

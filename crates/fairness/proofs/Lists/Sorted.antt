@@ -146,14 +146,12 @@ module _ {K : Type 0} (cmp : K → K → Ordering) (total : IsTotalOrder cmp) wh
   pub ascending_insert : (ks ls : List K) (k : K) → are_ascending cmp (ks ++ ls) ≡ true
       → list_all (λ l. is_lt (cmp l k)) ks ≡ true → list_all (λ l. is_gt (cmp l k)) ls ≡ true
       → are_ascending cmp (ks ++ k ∷ ls) ≡ true
-  ascending_insert [] ls k h below above =
-      and_from _ _ (list_all-mono (λ l. is_gt (cmp l k)) (λ l. is_lt (cmp k l)) (λ l g. is_lt_from_gt k l g) ls above) h
+  ascending_insert [] ls k h below above = and_from _ _ (list_all-mono _ _ (λ l g. is_lt_from_gt k l g) ls above) h
   ascending_insert (j ∷ ks) ls k h below above =
-      let first = first_of_both (list_all (λ l. is_lt (cmp j l)) (ks ++ ls)) _ h in
-      and_from _ _ (list_all-append (λ l. is_lt (cmp j l)) ks (k ∷ ls) (list_all-left _ ks ls first)
-      (and_from _ _ (first_of_both (is_lt (cmp j k)) _ below) (list_all-right _ ks ls first)))
-      (ascending_insert ks ls k (second_of_both (list_all (λ l. is_lt (cmp j l)) (ks ++ ls)) _ h)
-      (second_of_both (is_lt (cmp j k)) _ below) above)
+      let first = first_of_both (list_all _ (ks ++ ls)) _ h in
+      and_from _ _ (list_all-append _ ks (k ∷ ls) (list_all-left _ ks ls first)
+      (and_from _ _ (first_of_both _ _ below) (list_all-right _ ks ls first)))
+      (ascending_insert ks ls k (second_of_both _ _ h) (second_of_both _ _ below) above)
 
   module _ {E : Type 0} (key : E → K) where
     -- the comparisons with a key rise along an ascending list
@@ -164,12 +162,10 @@ module _ {K : Type 0} (cmp : K → K → Ordering) (total : IsTotalOrder cmp) wh
     comparisons_rise (e ∷ es) k h zero (suc j) d le lt =
         let below : list_all (λ f. is_lt (cmp (key e) (key f))) es ≡ true =
         search (rules, list_all-map, first_of_both) in
-        index_le (key e) (key (get_or es j d)) k
-        (is_lt_less _ (within_from_all (λ f. is_lt (cmp (key e) (key f))) es below j d (omega arith)))
+        index_le (key e) _ k (is_lt_less _ (within_from_all _ es below j d (omega arith)))
     comparisons_rise (e ∷ es) k h (suc i) zero d le lt = absurd (omega arith)
     comparisons_rise (e ∷ es) k h (suc i) (suc j) d le lt =
-        comparisons_rise es k (second_of_both (list_all (λ l. is_lt (cmp (key e) l)) (map key es)) _ h) i j d
-        (omega arith) (omega arith)
+        comparisons_rise es k (second_of_both _ _ h) i j d (omega arith) (omega arith)
 
     -- an entry of the key in an ascending list is its place
     pub place : (es before after : List E) (here : E) (k : K) (at : ℕ) → es ≡ before ++ here ∷ after
@@ -262,8 +258,7 @@ module _ {K : Type 0} (cmp : K → K → Ordering) (total : IsTotalOrder cmp) wh
           → value_at cmp key says none es k ≡ none
       greater [] k above = refl
       greater (e ∷ es) k above =
-          rw (is_gt_greater _ (first_of_both (is_gt (cmp (key e) k)) _ above))
-          (greater es k (second_of_both (is_gt (cmp (key e) k)) _ above))
+          rw (is_gt_greater _ (first_of_both (is_gt (cmp (key e) k)) _ above)) (greater es k (second_of_both _ _ above))
 
       pub at_place : (es : List E) (k : K) (at : ℕ) → (p : IsPlace cmp key es k at)
           → value_at cmp key says none es k ≡ says p.entry

@@ -18,10 +18,9 @@ drained_scaled : (g n d : ℕ) (a rate : Amount) (k : ℕ) → 0 < g → 0 < a.d
 drained_scaled g n d a rate k h i j num den =
     let unit : ℕ = rate.den * billion in
     let some : 0 < a.den * unit = mul-pos i (mul-pos j (omega arith)) in
-    let up = mul-sub g (a.num * unit) (k * (rate.num * a.den)) ∙ same_difference (g * (a.num * unit)) (n * unit)
-    (g * (k * (rate.num * a.den))) (k * (rate.num * d)) (rw num (omega arith)) (rw den (omega arith)) in
+    let up = mul-sub g _ _ ∙ same_difference _ (n * unit) _ _ (rw num (omega arith)) (rw den (omega arith)) in
     let down : g * (a.den * unit) ≡ d * unit = rw den (omega arith) in
-    sym (reduced_scaled g (a.num * unit - k * (rate.num * a.den)) (a.den * unit) h some) ∙ reduced_alike _ _ _ _ up down
+    sym (reduced_scaled g _ _ h some) ∙ reduced_alike _ _ _ _ up down
 
 -- draining an amount in lowest terms is draining the amount
 pub drained_reduced : (n d : ℕ) (rate : Amount) (k : ℕ) → 0 < d → 0 < rate.den

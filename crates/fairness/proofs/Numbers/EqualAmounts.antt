@@ -7,8 +7,7 @@ equal_sym a b e = sym e
 
 pub equal_trans : (a b c : Amount) → 0 < b.den → AreEqual a b → AreEqual b c → AreEqual a c
 equal_trans a b c h e f =
-    eq_of_mul-eq-mul_right b.den h (a.num * c.den) (c.num * a.den)
-    (omega (arith, ap (λ n. n * c.den) e, ap (λ n. n * a.den) f))
+    eq_of_mul-eq-mul_right b.den h _ _ (omega (arith, ap (λ n. n * c.den) e, ap (λ n. n * a.den) f))
 
 pub equal_if_same : (a b : Amount) → a ≡ b → AreEqual a b
 equal_if_same a b e = subst (λ x. AreEqual x b) (sym e) refl

@@ -183,9 +183,8 @@ cross_reduced a b c d h j r t =
       first_positive = gcd-pos a d j;
       positive = some;
       lowest = lowest;
-      same = sym (reduced_alike _ _ _ _ num den)
-          ∙ reduced_scaled (f * s) (a / f * (c / s)) (b / s * (d / f)) (mul-pos (gcd-pos a d j) (gcd-pos c b h)) some
-          ∙ reduced_lowest (a / f * (c / s)) (b / s * (d / f)) lowest;
+      same = sym (reduced_alike _ _ _ _ num den) ∙ reduced_scaled (f * s) _ _ (mul-pos (gcd-pos a d j) (gcd-pos c b h))
+          some ∙ reduced_lowest _ _ lowest;
     }
 
 -- the parts of two fractions in lowest terms, found before they are multiplied

@@ -23,16 +23,11 @@ drained_if_worth : (left rate : Ratio) (n : ℕ) (r : Ratio)
     ≡ (left.numerator * (rate.denominator * billion) - n * (rate.numerator * left.denominator)) * r.denominator
     → amount_of r ≡ drained (amount_of left) (amount_of rate) n
 unfolding left_is
-drained_if_worth left rate n r e =
-    worth_is_reduced r (left_is (amount_of left) (amount_of rate) n)
-    (mul-pos left.positive (mul-pos rate.positive (omega arith))) e
+drained_if_worth left rate n r e = worth_is_reduced r _ (mul-pos left.positive (mul-pos rate.positive (omega arith))) e
 
 nothing_drains : (left rate : Ratio) (n : ℕ) → n * (rate.numerator * left.denominator) ≡ 0
     → amount_of left ≡ drained (amount_of left) (amount_of rate) n
-nothing_drains left rate n none =
-    drained_if_worth left rate n left
-    (regroup left.numerator left.denominator (rate.denominator * billion) (n * (rate.numerator * left.denominator))
-    none)
+nothing_drains left rate n none = drained_if_worth left rate n left (regroup left.numerator left.denominator _ _ none)
   where
     less_none : (n : ℕ) → n - 0 ≡ n
     less_none n = omega arith
@@ -45,10 +40,7 @@ nothing_drains left rate n none =
 
 nothing_stays : (left rate : Ratio) (n : ℕ) → left.numerator ≡ 0
     → amount_of left ≡ drained (amount_of left) (amount_of rate) n
-nothing_stays left rate n none =
-    drained_if_worth left rate n left
-    (regroup left.numerator left.denominator (rate.denominator * billion) (n * (rate.numerator * left.denominator))
-    none)
+nothing_stays left rate n none = drained_if_worth left rate n left (regroup left.numerator left.denominator _ _ none)
   where
     regroup : (l d u m : ℕ) → l ≡ 0 → l * (d * u) ≡ (l * u - m) * d
     regroup l d u m e =
@@ -115,9 +107,8 @@ turned l d p q u m e h j = (
 pub covers_iff : (left rate t : Ratio) (n : ℕ) → IsTaken (amount_of rate) n t
     → (left.numerator * t.denominator ≤ t.numerator * left.denominator) ↔ Covers (amount_of rate) n (amount_of left)
 covers_iff left rate t n is =
-    let both =
-    turned left.numerator left.denominator t.numerator t.denominator (rate.denominator * billion)
-    (rate.numerator * n) is.equal t.positive (mul-pos rate.positive (omega arith)) in
+    let both = turned left.numerator left.denominator t.numerator t.denominator _ _ is.equal t.positive
+    (mul-pos rate.positive (omega arith)) in
     (λ le. let low = both.0 le in omega arith, λ covers. both.1 (omega arith))
 
 -- ---- what is left
@@ -136,10 +127,8 @@ drained_by_difference : (left rate t rest : Ratio) (n : ℕ) → IsTaken (amount
 unfolding left_is
 drained_by_difference left rate t rest n is worth =
     let l = amount_of left in
-    let across : AreEqual (minus l (amount_of t)) (left_is l (amount_of rate) n) = search (rules, over_other) in
-    drained_if_worth left rate n rest
-    (equal_trans (amount_of rest) (minus l (amount_of t)) (left_is l (amount_of rate) n)
-    (mul-pos left.positive t.positive) worth across)
+    let across : AreEqual (minus l (amount_of t)) (left_is l _ n) = search (rules, over_other) in
+    drained_if_worth left rate n rest (equal_trans _ _ _ (mul-pos left.positive t.positive) worth across)
 
 pub all_drained : (left rate t : Ratio) (n : ℕ) (r : Option Ratio) → IsTaken (amount_of rate) n t
     → IfSome r (λ rest. IsWorth rest (minus (amount_of left) (amount_of t)))
@@ -153,9 +142,7 @@ pub drained_to_zero : (left rate rest : Ratio) (n : ℕ) → Covers (amount_of r
 drained_to_zero left rate rest n covers zero_is =
     let none : left.numerator * (rate.denominator * billion) - n * (rate.numerator * left.denominator) ≡ 0 =
     omega arith in
-    drained_if_worth left rate n rest
-    (regroup rest.numerator rest.denominator (left.denominator * (rate.denominator * billion)) _
-    (ap (λ a. a.num) zero_is) none)
+    drained_if_worth left rate n rest (regroup rest.numerator rest.denominator _ _ (ap (λ a. a.num) zero_is) none)
   where
     regroup : (m d u k : ℕ) → m ≡ 0 → k ≡ 0 → m * u ≡ k * d
     regroup m d u k e f = ap (λ x. x * u) e ∙ zero-mul u ∙ sym (ap (λ x. x * d) f ∙ zero-mul d)

@@ -257,9 +257,7 @@ module _ {P : Type 0} (cmp : P → P → Ordering) (order : IsTotalOrder cmp) (c
   pub capped_from_listed : (flows : List (Flow P)) (side : Side) → Contains (sides_under cmp caps flows) side
       → IsCappedSide cmp caps flows side
   capped_from_listed flows side c =
-      let r =
-      from_sides [] (asks 0 flows) side (λ a h. absurd h) (all_by_caps 0 flows)
-      (in_from_contains (sides_under cmp caps flows) side c) in
+      let r = from_sides [] _ side (λ a h. absurd h) (all_by_caps 0 flows) (in_from_contains _ side c) in
       let a = r.0 in
       let from = asker 0 flows a r.1.among in
       record {
@@ -281,12 +279,10 @@ module _ {P : Type 0} (cmp : P → P → Ordering) (order : IsTotalOrder cmp) (c
       let r = asked 0 flows s f h l in
       let a = r.0 in
       let answered = all_by_caps 0 flows a r.1 ∙ sym (one_cap cmp order caps of s a.subject r.2) ∙ has in
-      let listed =
-      to_sides [] (asks 0 flows) a cap (λ b g. absurd g) (all_by_caps 0 flows) r.1 answered (λ b g. absurd g) in
+      let listed = to_sides [] _ a cap (λ b g. absurd g) (all_by_caps 0 flows) r.1 answered (λ b g. absurd g) in
       let same : side_asked (asks 0 flows) a cap ≡ side_of_subject flows s cap =
       search (rules, places_asked, same_places) in
-      contains_from_in (sides_under cmp caps flows) (side_of_subject flows s cap)
-      (subst (In (sides_under cmp caps flows)) same listed)
+      contains_from_in _ _ (subst (In (sides_under cmp caps flows)) same listed)
 
 pub sides_are_of_the_caps : {P : Type 0} (cmp : P → P → Ordering) → IsTotalOrder cmp → SidesAreOfTheCaps cmp
 sides_are_of_the_caps cmp order caps flows side of = (

@@ -1,5 +1,5 @@
 -- What an origin still has to send goes down by no more than its egress cap lets go.
-use Rattle.link_simulation.proofs.Common.{◌||◌, common_steps, sum_by, ◌≡◌, ℕ, zero, suc, ◌+◌, ◌-◌, ◌*◌, ◌<◌, ◌≤◌}
+use Rattle.link_simulation.proofs.Common.{common_steps, sum_by, ◌≡◌, ℕ, zero, suc, ◌+◌, ◌-◌, ◌*◌, ◌<◌, ◌≤◌}
 use Rattle.link_simulation.proofs.Common.{List, [], ◌∷◌, ◌++◌, map, length, Bool, true, false, Option, Some, None, refl}
 use Rattle.link_simulation.proofs.Common.{sym, ap, ◌∙◌, subst, arith, append-nil, if◌then◌else◌, slice_get, filter}
 use Rattle.link_simulation.proofs.Common.{find, flat_map, Ordering, IsTotalOrder, All-contains, Contains-append_left}
@@ -166,8 +166,7 @@ module _ {P : Type 0} (cmp : P → P → Ordering) (order : IsTotalOrder cmp) wh
     follows_then : (w : World P) (c : Course (Completed P) (World P)) (k : World P → Course (Completed P) (World P))
         → EndsWith (Follows w) c
         → ((v : World P) → Holds v → EndsWith (Follows v) (k v)) → EndsWith (Follows w) (and_then c k)
-    follows_then w c k h next =
-        ends_and_then (Follows w) (Follows w) c k h (λ v f. ends_more w v f (k v) (next v f.holds))
+    follows_then w c k h next = grind (arith, ends_and_then, ends_more)
 
     start_follows : (w : World P) (m : Message P) → Holds w → find (same_pair cmp m) w.waiting ≡ Some m
         → EndsWith (Follows w) (start cmp w m)
@@ -181,11 +180,7 @@ module _ {P : Type 0} (cmp : P → P → Ordering) (order : IsTotalOrder cmp) wh
 
     done_is_spent : (w : World P) (f : Flight P) → Holds w → is_done cmp w f ≡ true
         → same_peer cmp p f.message.origin ≡ true → f.left.num ≡ 0
-    done_is_spent w f h done from = eqb-true f.left.num 0 (by_left _ (rw (h.egress f.message.origin from) at done))
-      where
-        by_left : (b : Bool) → (b || false) ≡ true → b ≡ true
-        by_left true e = refl
-        by_left false e = cc
+    done_is_spent w f h done from = grind (arith, eqb-true)
 
     complete_follows : (t : ℕ) (w : World P) (f : Flight P) → Holds w
         → EndsWith (Follows w) (complete cmp t w f.message)
@@ -209,8 +204,7 @@ module _ {P : Type 0} (cmp : P → P → Ordering) (order : IsTotalOrder cmp) wh
 
     turn_follows : (t : ℕ) (w : World P) (m : Message P) → least_pair cmp (ready cmp t w) ≡ Some m → Holds w
         → EndsWith (Follows w) (turn cmp t w m)
-    turn_follows t w m e h =
-        follows_then w _ _ (start_follows w m h (ready_is_first t w m e)) (λ v k. settle_within_follows _ t v k)
+    turn_follows t w m e h = grind (arith, follows_then, start_follows, ready_is_first, settle_within_follows)
 
     wake_within_follows : (n t : ℕ) (w : World P) → Holds w → EndsWith (Follows w) (wake_within cmp n t w)
     wake_within_follows n t w h =
@@ -273,8 +267,7 @@ module _ {P : Type 0} (cmp : P → P → Ordering) (order : IsTotalOrder cmp) wh
     drained_one per n others left before after true None some pos never ih = absurd (never refl refl)
     drained_one per n others left before after true (Some a) some pos never ih =
         grind (arith, rate_of, add-mul, plus_shares, lowest_takes)
-    drained_one per n others left before after false r some pos never ih =
-        subst (λ k. IsAtMost before (plus after (share (k * n) (per * billion)))) (sym (zero-add others)) ih
+    drained_one per n others left before after false r some pos never ih = grind (arith, share, zero-add)
 
     drained_each : (per : ℕ) (rates : Parts) (n : ℕ) (fs : List (Flight P)) → 0 < per → ArePositive fs
         → ((i : ℕ) → slice_get (map from_it (map (λ (f : Flight P). f.message) fs)) i ≡ Some true
@@ -328,8 +321,7 @@ module _ {P : Type 0} (cmp : P → P → Ordering) (order : IsTotalOrder cmp) wh
     -- what an origin still has to send goes down by no more than its cap lets go
     pub ticks_lose : {n : ℕ} {w : World P} {course : Course (Completed P) (World P)} → Ticks cmp n w course
         → (cs : List (Completed P)) (v : World P) → course ≡ goes cs v → Holds w → Loses n w v
-    ticks_lose {w = w} no_tick cs v e h =
-        let same : w ≡ v = cc in subst (λ (z : World P). Loses 0 w z) same (loses_none w w (follows_itself w h))
+    ticks_lose {w = w} no_tick cs v e h = grind (arith, loses_none, follows_itself)
     ticks_lose {w = w} (one_tick {n = n} {v = z} {u = u} {cs = ds} {rest = rest} d i t) cs v e h =
         let r : (es : List (Completed P)) × (rest ≡ goes es v) × (ds ++ es ≡ cs) = rest_is cmp ds rest cs v e in
         let first : Loses 1 w z = drain_loses w z h d in

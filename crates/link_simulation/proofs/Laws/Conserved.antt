@@ -85,14 +85,10 @@ module _ {P : Type 0} (cmp : P → P → Ordering) (order : IsTotalOrder cmp) wh
       waits = of_pair cmp k p.waiting
 
       own_first : same_pair cmp k m ≡ true → waits ≡ m ∷ rest_of waits
-      own_first own =
-          let own_found = sym (find_like cmp order k m p.waiting own) ∙ find_like cmp order n m p.waiting
-          (find_passes _ m p.waiting found) ∙ found in
-          headed waits m (sym (head_found _ p.waiting) ∙ own_found)
+      own_first own = grind (arith, find_like, find_passes, headed, head_found)
 
       own_idle : same_pair cmp k m ≡ true → flying ≡ []
-      own_idle own =
-          filter_nothing (same_pair cmp k) _ (sym (any_like cmp order k m _ own) ∙ idle_if_may cmp order t p m may)
+      own_idle own = grind (arith, filter_nothing, same_pair, any_like, idle_if_may)
 
   launch_holds : {t : ℕ} {p : Planned P} {o : Option (Message P)} {c : Course (Message P) (Planned P)}
       → Launches cmp t p o c

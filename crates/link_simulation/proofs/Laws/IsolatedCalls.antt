@@ -135,13 +135,7 @@ module _ {P : Type 0} (cmp : P → P → Ordering) (order : IsTotalOrder cmp) (i
             last_arrival = raised cmp last m (once_at (last m.origin m.recipient) now m);
           })))
       by_late true = tt
-      by_late false =
-          let alone = ap (λ at. once now m at ∷ []) at_same ∙ (rw own refl) in (
-            raised cmp last m (once_at (last m.origin m.recipient) now m),
-            id,
-            raised_within,
-            goes_alike cmp order inside alike Whole _ _ _ _ alone refl,
-          )
+      by_late false = grind (arith, at_same, raised, once_at, raised_within, goes_alike, alike)
 
       at_once : Of (complete_at_once cmp now w m) (complete_at_once cmp now (Small last id w) m)
       at_once = by_late _
@@ -193,10 +187,7 @@ module _ {P : Type 0} (cmp : P → P → Ordering) (order : IsTotalOrder cmp) (i
           })))
           (goes [] (Small last id w))
       by_late true = tt
-      by_late false =
-          let nothing : [] ≡ filter (λ (c : Completed P). inside c.origin) (once now m
-          (once_at (w.last_arrival m.origin m.recipient) now m) ∷ []) = rw off refl in
-          (last, id, raised_within, goes_alike cmp order inside alike Whole _ _ _ _ nothing refl)
+      by_late false = grind (arith, once_at, raised_within, goes_alike, alike)
 
       at_once : Of (complete_at_once cmp now w m) (goes [] (Small last id w))
       at_once = by_late _
@@ -409,8 +400,7 @@ module _ {P : Type 0} (cmp : P → P → Ordering) (order : IsTotalOrder cmp) (i
           no_event : w.moment ≤ now → (ds ≡ []) ⊎ ((t : ℕ) × (t ≤ w.moment + (now - w.moment)) × NextIs cmp w (Some t))
               → ds ≡ []
           no_event later (inl e) = e
-          no_event later (inr (t, le, event)) =
-              let before : now < t = other_is_before w call now is_now turn dropped t event in absurd (omega arith)
+          no_event later (inr (t, le, event)) = grind (arith, other_is_before)
 
   -- the fair rates of the set's flows are fair for these alone
   pub fair_alone : (caps : Caps P) (ms : List (Message P)) (per : ℕ) (rates : Parts)

@@ -86,17 +86,7 @@ module _ {P : Type 0} (cmp : P → P → Ordering) (order : IsTotalOrder cmp) (i
       → (cs : List (Completed P)) (v : World P) (last : P → P → Option ℕ) (id : ℕ) → course ≡ goes cs v
       → Within last id w → (l : P → P → Option ℕ) × (i : ℕ) × Within l i v
       × Ticks cmp n (Small last id w) (goes (filter (λ (c : Completed P). inside c.origin) cs) (Small l i v))
-  ticks_part {w = w} no_tick cs v last id e is =
-      let same : w ≡ v = cc in
-      let empty : [] ≡ cs = cc in (
-        last,
-        id,
-        subst (λ (z : World P). Within last id z) same is,
-        subst
-            (λ (ds : List (Completed P)). Ticks cmp 0 (Small last id w)
-            (goes (filter (λ (c : Completed P). inside c.origin) ds) (Small last id v)))
-            empty (subst (λ (z : World P). Ticks cmp 0 (Small last id w) (goes [] (Small last id z))) same no_tick),
-      )
+  ticks_part {w = w} no_tick cs v last id e is = grind (arith, no_tick)
   ticks_part {w = w} (one_tick {n = n} {v = z} {u = u} {cs = ds} {rest = rest} d i t) cs v last id e is =
       let r : (es : List (Completed P)) × (rest ≡ goes es v) × (ds ++ es ≡ cs) = rest_is cmp ds rest cs v e in
       let drained : Within last id z × Drains cmp (Small last id w) (Small last id z) = drain_part w z last id is d in

@@ -147,16 +147,13 @@ module _ {P : Type 0} (cmp : P → P → Ordering) (order : IsTotalOrder cmp) (i
       → find (same_pair cmp m) w.waiting ≡ o → IsPartOf (start_next cmp t w o) (goes [] (part last id w))
   start_next_other t w m None last id is off e = (last, id, is, refl)
   start_next_other t w m (Some x) last id is off e =
-      let same : same_pair cmp m x ≡ true = find_passes _ x w.waiting e in
-      by_bool (may_start cmp t w x) (λ here. rw here (start_other w x last id is
-      (find_like cmp order m x w.waiting same ∙ e) (sym (alike m x same) ∙ off))) (λ here. rw here (last, id, is, refl))
+      grind (arith, same_pair, find_passes, by_bool, start_other, find_like)
 
   -- ---- a completion
 
   pub raised_same : (m n : Message P) (at : ℕ) (last : P → P → Option ℕ) (w : World P) (id : ℕ) → IsPart last id w
       → mine n ≡ true → raised cmp last m at n.origin n.recipient ≡ raised cmp w.last_arrival m at n.origin n.recipient
-  raised_same m n at last w id is own =
-      let same : last n.origin n.recipient ≡ w.last_arrival n.origin n.recipient = is.arrivals n own in rw same refl
+  raised_same m n at last w id is own = grind arith
 
   pub raised_other : (m n : Message P) (at : ℕ) (last : P → P → Option ℕ) → mine m ≡ false → mine n ≡ true
       → raised cmp last m at n.origin n.recipient ≡ last n.origin n.recipient

@@ -1,10 +1,9 @@
 -- Replies that agree with the simulation, to calls in turn, are what the calls that were made answer there.
-use Rattle.link_simulation.proofs.Common.{common_steps, ◌≡◌, ℕ, ◌<◌, ◌≤◌, List, [], ◌∷◌, Some, zero, suc, refl, ◌∙◌}
-use Rattle.link_simulation.proofs.Common.{subst, arith, IfSome, AllZip, Ordering, IsTotalOrder, World, new_world}
-use Rattle.link_simulation.proofs.Common.{Completed, goes, IsQuiet, Call, call_advance, call_next, moment_of, Runs}
-use Rattle.link_simulation.proofs.Common.{IsBeforeNext, IsInTurn, Reply, reply_done, reply_next, reply_refused}
-use Rattle.link_simulation.proofs.Common.{SameCompletion, Agrees, made, completions_in, Answers, no_calls, call_answers}
-use Rattle.link_simulation.proofs.Common.{AreInTurn}
+use Rattle.link_simulation.proofs.Common.{common_steps, ◌≡◌, ℕ, ◌≤◌, List, [], ◌∷◌, Some, zero, suc, refl, ◌∙◌, arith}
+use Rattle.link_simulation.proofs.Common.{AllZip, Ordering, IsTotalOrder, World, new_world, Completed, goes, IsQuiet}
+use Rattle.link_simulation.proofs.Common.{Call, call_advance, call_next, moment_of, Runs, IsBeforeNext, IsInTurn, Reply}
+use Rattle.link_simulation.proofs.Common.{reply_done, reply_next, reply_refused, SameCompletion, Agrees, made}
+use Rattle.link_simulation.proofs.Common.{completions_in, Answers, no_calls, call_answers, AreInTurn}
 use Rattle.std.specs.Prelude.{take}
 use Rattle.link_simulation.specs.Laws.Isolation.{AnswersInTurn, no_calls_in_turn, answers_in_turn}
 use Rattle.link_simulation.specs.Laws.Replies.{AreAdvancedFirst}
@@ -57,8 +56,7 @@ module _ {P : Type 0} (cmp : P → P → Ordering) (order : IsTotalOrder cmp) wh
       grind (arith, common_steps, (call_ends_quiet cmp order w call now (goes cs v) quiet at le runs))
 
   pub before_next : (w : World P) (now : ℕ) → w.moment ≡ now → IsBeforeNext cmp now w
-  before_next w now same = λ next is.
-      subst (λ (s : ℕ). IfSome next (λ t. s < t)) same (next_is_later cmp order w next is)
+  before_next w now same = grind (arith, next_is_later)
 
   by_reply : (w : World P) (call : Call P) (calls : List (Call P)) (reply : Reply P) (replies : List (Reply P))
       → IsInTurn cmp w call → AreInTurn cmp w calls replies

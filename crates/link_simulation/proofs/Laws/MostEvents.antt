@@ -1,7 +1,7 @@
 -- Each event takes a message out or starts one, so there are at most twice the waiting ones and once those in flight.
-use Rattle.link_simulation.proofs.Common.{left_at, common_steps, ◌≡◌, ◌≢◌, ℕ, zero, suc, ◌+◌, ◌-◌, ◌<◌, ◌≤◌, List, []}
+use Rattle.link_simulation.proofs.Common.{common_steps, ◌≡◌, ◌≢◌, ℕ, zero, suc, ◌+◌, ◌-◌, ◌<◌, ◌≤◌, List, []}
 use Rattle.link_simulation.proofs.Common.{◌∷◌, ◌++◌, length, Bool, true, false, not, Option, Some, refl, sym, ap, ◌∙◌}
-use Rattle.link_simulation.proofs.Common.{subst, arith, ⊤, slice_get, IfSome, find, filter, Ordering, IsTotalOrder}
+use Rattle.link_simulation.proofs.Common.{subst, arith, ⊤, slice_get, find, filter, Ordering, IsTotalOrder}
 use Rattle.link_simulation.proofs.Common.{Message, Caps, same_pair, Completed, Course, goes, meets, preceded, fronts}
 use Rattle.link_simulation.proofs.Common.{completed, Call, call_limit, call_limit_link, call_enqueue, call_advance}
 use Rattle.link_simulation.proofs.Common.{call_enqueue_all, call_next, Planned, RatedFlight, IsLeastMoment, next_event}
@@ -12,7 +12,7 @@ use Rattle.link_simulation.proofs.Common.{stopped, completes, WakesEach, all_sta
 use Rattle.link_simulation.proofs.Common.{Wakes, Settles, settling, Rebalances, none_sending, some_sending, Enqueues}
 use Rattle.link_simulation.proofs.Common.{at_once, no_launch, launches, Advances, no_more, at_finish, at_start}
 use Rattle.link_simulation.proofs.Common.{finish_stops, start_stops, launched, Obeys, EnqueuesEach, all_enqueued}
-use Rattle.link_simulation.proofs.Common.{one_stops, enqueues_one, In, Each, zip-length, by_bool}
+use Rattle.link_simulation.proofs.Common.{one_stops, enqueues_one, In, Each, zip-length, by_bool, left_at, IfSome}
 use Rattle.link_simulation.specs.Laws.MostEvents.{most_events}
 use Rattle.link_simulation.specs.Rule.Planned.{IsPlanned}
 use Rattle.fairness.proofs.Lists.Members.{in_filter}
@@ -101,8 +101,7 @@ module _ {P : Type 0} (cmp : P → P → Ordering) (order : IsTotalOrder cmp) wh
 
   finish_counts : {t : ℕ} {ms : List (Message P)} {p : Planned P} {c : Course (Completed P) (Planned P)}
       → Finishes cmp t ms p c → Leaves (most_events p) c
-  finish_counts {t = t} {p = p} (all_completed {q = q} looks) =
-      let same : most_events q ≡ most_events p = look_counts t p q looks in omega arith
+  finish_counts {t = t} {p = p} (all_completed {q = q} looks) = grind (arith, look_counts)
   finish_counts (late is) = tt
   finish_counts (stopped is launch) = tt
   finish_counts {t = t} {p = p} (completes {m = m} {more = more} {q = q} {rest = rest} is launch finishes) =
@@ -111,8 +110,7 @@ module _ {P : Type 0} (cmp : P → P → Ordering) (order : IsTotalOrder cmp) wh
 
   wake_counts : {t : ℕ} {ms : List (Message P)} {p : Planned P} {c : Course (Completed P) (Planned P)}
       → WakesEach cmp t ms p c → Leaves (most_events p) c
-  wake_counts {t = t} {p = p} (all_started {q = q} looks) =
-      let same : most_events q ≡ most_events p = look_counts t p q looks in omega arith
+  wake_counts {t = t} {p = p} (all_started {q = q} looks) = grind (arith, look_counts)
   wake_counts (no_start launch) = tt
   wake_counts (no_finish launch finishes) = tt
   wake_counts {p = p} (starts_one {m = m} {more = more} {q = q} {r = r} {cs = cs} {rest = rest} launch finishes wakes) =

@@ -181,19 +181,15 @@ module _ {P : Type 0} (cmp : P → P → Ordering) (order : IsTotalOrder cmp) wh
 
   pub limited_by_alike : (caps : Caps P) (peer : P) (egress ingress : Option ℕ) → CapsAlike cmp caps caps
       → CapsAlike cmp (limited_by cmp caps peer egress ingress) (limited_by cmp caps peer egress ingress)
-  limited_by_alike caps peer egress ingress h =
-      limited_by_same cmp order caps caps peer peer egress ingress h (same_itself cmp order peer)
+  limited_by_alike caps peer egress ingress h = grind (arith, limited_by_same, same_itself)
 
   pub linked_by_alike : (caps : Caps P) (origin recipient : P) (cap : Option ℕ) → CapsAlike cmp caps caps
       → CapsAlike cmp (linked_by cmp caps origin recipient cap) (linked_by cmp caps origin recipient cap)
-  linked_by_alike caps origin recipient cap h =
-      linked_by_same cmp order caps caps origin recipient origin recipient cap h (same_itself cmp order origin)
-      (same_itself cmp order recipient)
+  linked_by_alike caps origin recipient cap h = grind (arith, linked_by_same, same_itself)
 
   call_orderly : (p : Planned P) (call : Call P) (c : Course (Completed P) (Planned P)) → Obeys cmp p call c
       → IsOrderly cmp p → EndsWith (IsOrderly cmp) c
-  call_orderly p (call_limit now peer egress ingress) c obeys h =
-      rebalance_orderly obeys (limited_by_alike p.caps peer egress ingress h.caps) h
+  call_orderly p (call_limit now peer egress ingress) c obeys h = grind (arith, rebalance_orderly, limited_by_alike)
   call_orderly p (call_limit_link now origin recipient cap) c obeys h =
       rebalance_orderly obeys (linked_by_alike p.caps origin recipient cap h.caps) h
   call_orderly p (call_enqueue now m) c obeys h = enqueue_orderly obeys h

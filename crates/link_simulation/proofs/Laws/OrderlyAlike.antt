@@ -1,6 +1,6 @@
 -- Planned worlds that are the same up to equal peers are in order alike.
-use Rattle.link_simulation.proofs.Common.{◌∙◌, SameMessage, IsSameRatedFlight, List, Ordering, IsTotalOrder, Completed}
-use Rattle.link_simulation.proofs.Common.{Call, Planned, rated_messages, IsSamePlanned, GoesByRule, IsOrderly}
+use Rattle.link_simulation.proofs.Common.{arith, ◌∙◌, SameMessage, IsSameRatedFlight, List, Ordering, IsTotalOrder}
+use Rattle.link_simulation.proofs.Common.{Completed, Call, Planned, rated_messages, IsSamePlanned, GoesByRule, IsOrderly}
 use Rattle.link_simulation.proofs.Laws.Orderly.{obeys_orderly}
 use Rattle.link_simulation.proofs.Rule.SamePlanned.{pairs_turned, pairs_chain, caps_turned, caps_chain}
 use Rattle.link_simulation.proofs.Rule.SameSteps.{none_same, flows_same}
@@ -28,5 +28,4 @@ module _ {P : Type 0} (cmp : P → P → Ordering) (order : IsTotalOrder cmp) wh
   -- and after a call that goes on one of them
   pub goes_orderly : (p q : Planned P) (call : Call P) (cs : List (Completed P)) → GoesByRule cmp p call cs q
       → IsOrderly cmp p → IsOrderly cmp q
-  goes_orderly p q call cs went h =
-      orderly_same went.after q went.same_after (obeys_orderly cmp order p went.after call went.answers went.obeys h)
+  goes_orderly p q call cs went h = grind (arith, orderly_same, obeys_orderly)

@@ -1,5 +1,5 @@
 -- The messages of a pair complete in the order in which they were enqueued, and are delivered in it.
-use Rattle.link_simulation.proofs.Common.{preceded, EndsWith, common_steps, ◌≡◌, ℕ, suc, ◌+◌, ◌-◌, ◌≤◌, List, [], ◌∷◌}
+use Rattle.link_simulation.proofs.Common.{preceded, EndsWith, ◌≡◌, ℕ, suc, ◌+◌, ◌-◌, ◌≤◌, List, [], ◌∷◌}
 use Rattle.link_simulation.proofs.Common.{◌++◌, map, Bool, true, false, cond, Option, Some, None, refl, sym, ap, ◌∙◌}
 use Rattle.link_simulation.proofs.Common.{subst, arith, append_assoc, append-nil, IfSome, if◌then◌else◌}
 use Rattle.link_simulation.proofs.Common.{filter, AllZip, Ordering, IsTotalOrder, filter-append, leb-true, le-leb}
@@ -8,7 +8,7 @@ use Rattle.link_simulation.proofs.Common.{completion_of, Course, goes, meets, an
 use Rattle.link_simulation.proofs.Common.{later_of, new_world, raised, IsSound, Drains, Ticks, no_tick}
 use Rattle.link_simulation.proofs.Common.{one_tick, tick_faults, Call, call_limit, call_limit_link, call_enqueue}
 use Rattle.link_simulation.proofs.Common.{call_advance, complete_at_once, act, moment_of, Runs, call_enqueue_all}
-use Rattle.link_simulation.proofs.Common.{call_next, limited_by, linked_by, enqueue, enqueue_each, enqueued, answered}
+use Rattle.link_simulation.proofs.Common.{call_next, limited_by, enqueue, enqueue_each, enqueued, answered}
 use Rattle.link_simulation.proofs.Common.{IsCompletionOf, NeverGoDown, Answers, no_calls, call_answers, by_bool}
 use Rattle.link_simulation.specs.Simulation.Calls.{join}
 use Rattle.link_simulation.specs.Laws.PairCompletions.{IsInPairOrder}
@@ -69,8 +69,7 @@ module _ {P : Type 0} (cmp : P → P → Ordering) (order : IsTotalOrder cmp) (k
 
   none_more : (messages : List (Message P)) (t : ℕ) (cs : List (Completed P)) (w : World P)
       → IsHistory cmp order k messages t cs w → IsHistory cmp order k (messages ++ []) t cs w
-  none_more messages t cs w h =
-      subst (λ (ms : List (Message P)). IsHistory cmp order k ms t cs w) (sym (append-nil messages)) h
+  none_more messages t cs w h = grind (arith, append-nil)
 
   recapped_history : (messages : List (Message P)) (t : ℕ) (cs : List (Completed P)) (w : World P) (caps : Caps P)
       → IsHistory cmp order k messages t cs w
@@ -100,9 +99,7 @@ module _ {P : Type 0} (cmp : P → P → Ordering) (order : IsTotalOrder cmp) (k
       none_flies = grind arith
 
       all_done : filter (same_pair cmp k) messages ≡ h.done
-      all_done =
-          h.queue ∙ ap (λ (ms : List (Message P)). h.done ++ (ms ++ waits cmp order k w)) none_flies
-          ∙ ap (λ (ms : List (Message P)). h.done ++ filter (same_pair cmp k) ms) none_waits ∙ append-nil h.done
+      all_done = grind (arith, none_flies, same_pair, append-nil)
 
       own_last : same_pair cmp k m ≡ true → last cmp order k after ≡ Some (later_of (last cmp order k w) at)
       own_last own = grind (arith, pair_sym)
@@ -214,24 +211,9 @@ module _ {P : Type 0} (cmp : P → P → Ordering) (order : IsTotalOrder cmp) (k
       → moment_of call ≡ Some t → IsSound cmp w → IsHistory cmp order k messages t cs w
       → GoesByRule cmp order k (messages ++ added call) t cs (act cmp w call)
   act_goes messages t cs w (call_limit s peer egress ingress) e sound h =
-      grind (
-        arith,
-        common_steps,
-        (limited_by cmp w.caps peer egress ingress),
-        (settle_goes cmp order k (messages ++
-            []) t cs (record w { caps = limited_by cmp w.caps peer egress ingress; limited = true }) (none_more messages t
-            cs _ (recapped_history messages t cs w (limited_by cmp w.caps peer egress ingress) h))),
-      )
+      grind (arith, limited_by, settle_goes, none_more, recapped_history)
   act_goes messages t cs w (call_limit_link s origin recipient cap) e sound h =
-      grind (
-        arith,
-        common_steps,
-        (settle_goes cmp order k (messages ++ []) t cs (record w {
-          caps = linked_by cmp w.caps origin recipient cap;
-          limited = true;
-        }) (none_more messages t cs _ (recapped_history messages t cs w
-            (linked_by cmp w.caps origin recipient cap) h))),
-      )
+      grind (arith, settle_goes, none_more, recapped_history)
   act_goes messages t cs w (call_enqueue s m) e sound h = grind (arith, enqueue_goes)
   act_goes messages t cs w (call_enqueue_all s ms) e sound h = grind (arith, append-nil, each_goes)
   act_goes messages t cs w (call_advance s) e sound h = stays cmp order k _ t cs w (none_more messages t cs w h)

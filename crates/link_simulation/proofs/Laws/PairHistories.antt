@@ -1,6 +1,6 @@
 -- How far a pair is: which of its messages completed, which is in flight, which wait. Starts, completions and whole
 -- instants keep it.
-use Rattle.link_simulation.proofs.Common.{nat_le, completion_of, last_moment, ◌≡◌, ℕ, zero, suc, ◌+◌, ◌≤◌, List, []}
+use Rattle.link_simulation.proofs.Common.{completion_of, ◌≡◌, ℕ, zero, suc, ◌+◌, ◌≤◌, List, []}
 use Rattle.link_simulation.proofs.Common.{◌∷◌, ◌++◌, map, length, Bool, true, false, cond, not, Option, Some, None}
 use Rattle.link_simulation.proofs.Common.{refl, sym, ap, ◌∙◌, subst, arith, append_assoc, append-nil, ⊤, ◌&&◌, IfSome}
 use Rattle.link_simulation.proofs.Common.{if◌then◌else◌, list_any, find, filter, AllZip, Ordering, IsTotalOrder}
@@ -9,7 +9,7 @@ use Rattle.link_simulation.proofs.Common.{PairsAlike, same_pair, is_delivered, W
 use Rattle.link_simulation.proofs.Common.{meets, preceded, and_then, is_in_order, later_of, flows, may_start, start}
 use Rattle.link_simulation.proofs.Common.{start_next, is_done, complete, settle_within, settle, least_pair, ready, turn}
 use Rattle.link_simulation.proofs.Common.{wake_within, instant, out_of_flight, is_late, completed, arrival, flight_of}
-use Rattle.link_simulation.proofs.Common.{IsCompletionOf, NeverGoDown, Each, rules, by_bool}
+use Rattle.link_simulation.proofs.Common.{IsCompletionOf, NeverGoDown, Each, rules, by_bool, nat_le, last_moment}
 use Rattle.link_simulation.specs.Laws.PairCompletions.{NoneBefore, completes_pair}
 use Rattle.link_simulation.proofs.Simulation.Queue.{pair_like, pair_sym, find_passes, settle_none, settle_first}
 use Rattle.link_simulation.proofs.Simulation.Queue.{by_option}
@@ -230,8 +230,7 @@ module _ {P : Type 0} (cmp : P → P → Ordering) (order : IsTotalOrder cmp) (k
     pub goes_preceded : (cs ds : List (Completed P)) (c : Course (Completed P) (World P)) → GoesByRule (cs ++ ds) c
         → GoesByRule cs (preceded ds c)
     unfolding GoesByRule
-    goes_preceded cs ds (goes es u) h =
-        subst (λ (xs : List (Completed P)). IsHistory messages t xs u) (append_assoc cs ds es) h
+    goes_preceded cs ds (goes es u) h = grind (arith, append_assoc)
     goes_preceded cs ds (meets fault) h = tt
 
     pub goes_then : (cs : List (Completed P)) (c : Course (Completed P) (World P))
@@ -303,9 +302,7 @@ module _ {P : Type 0} (cmp : P → P → Ordering) (order : IsTotalOrder cmp) (k
         own_last own = rw (peers_own own) refl
 
         other_last : same_pair cmp k f.message ≡ false → last (land w f.message) ≡ last w
-        other_last off =
-            let out : (same_peer cmp f.message.origin k.origin && same_peer cmp f.message.recipient k.recipient)
-            ≡ false = pair_sym cmp order f.message k ∙ off in rw out refl
+        other_last off = grind (arith, pair_sym)
 
         by_flying : same_pair cmp k f.message ≡ true → (o : Option (Message P)) → h.flying ≡ o → flies w ≡ held o
             → filter (same_pair cmp k) messages ≡ h.done ++ (held o ++ waits w)
@@ -325,10 +322,7 @@ module _ {P : Type 0} (cmp : P → P → Ordering) (order : IsTotalOrder cmp) (k
                     → (find (is_done cmp w) fs ≡ Some f
                     → filter (same_pair cmp k) (map (λ (g : Flight P). g.message) fs) ≡ [] → ⊥) → ⊥
                 by_test b true is e none ih = cc
-                by_test true false is e none ih =
-                    let same : g ≡ f = cc in
-                    let out = ap (λ (x : Flight P). same_pair cmp k x.message) (sym same) ∙ is in
-                    cc
+                by_test true false is e none ih = grind (arith, same_pair)
                 by_test false false is e none ih = ih e none
         by_flying own (Some n) is one queue order_is =
             let taken = taken_out _ _ (is_done cmp w) f n w.sending found own one in
@@ -394,8 +388,7 @@ module _ {P : Type 0} (cmp : P → P → Ordering) (order : IsTotalOrder cmp) (k
 
     turn_goes : (cs : List (Completed P)) (w : World P) (m : Message P) → least_pair cmp (ready cmp t w) ≡ Some m
         → IsHistory messages t cs w → GoesByRule cs (turn cmp t w m)
-    turn_goes cs w m e h = let known = ready_may w m e in
-        goes_then cs (start cmp w m) (settle cmp t) (start_goes cs w m known.0 known.1 h) (λ ds u g. settle_goes ds u g)
+    turn_goes cs w m e h = grind (arith, ready_may, goes_then, start, start_goes, settle_goes)
 
     wake_within_goes : (n : ℕ) (cs : List (Completed P)) (w : World P) → IsHistory messages t cs w
         → GoesByRule cs (wake_within cmp n t w)

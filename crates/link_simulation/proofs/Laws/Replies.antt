@@ -52,10 +52,7 @@ module _ {P : Type 0} (cmp : P → P → Ordering) (order : IsTotalOrder cmp) wh
 
   completes_alike : (k : Message P) (c d : Completed P) → SameCompletion cmp c d
       → completes_pair cmp k c ≡ completes_pair cmp k d
-  completes_alike k c d same =
-      both_alike cmp order _ _ _ _ (peers_alike cmp order k.origin k.origin c.origin d.origin
-      (same_itself cmp order k.origin) same.origin) (peers_alike cmp order k.recipient k.recipient c.recipient
-      d.recipient (same_itself cmp order k.recipient) same.recipient)
+  completes_alike k c d same = grind (arith, both_alike, peers_alike, same_itself)
 
   completions_of : (cs ds : List (Completed P)) (ms : List (Message P)) → AllZip (SameCompletion cmp) cs ds
       → AllZip IsCompletionOf ds ms → AllZip (Completes cmp) cs ms

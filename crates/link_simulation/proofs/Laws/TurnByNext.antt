@@ -26,8 +26,7 @@ module _ {P : Type 0} (cmp : P → P → Ordering) (order : IsTotalOrder cmp) wh
       → IsBeforeNext cmp now w → IsInTurn cmp w call
   in_turn w (call_advance t) now is le before = let same : now ≡ t = cc in omega arith
   in_turn w call_next now is le before = tt
-  in_turn w call now is le before =
-      let same : now ≡ _ = cc in (omega arith, subst (λ (s : ℕ). IsBeforeNext cmp s w) same before)
+  in_turn w call now is le before = grind arith
 
   pub turn_by_next : (p : Planned P) (w : World P) (call : Call P) (now : ℕ) → StandsFor cmp p w
       → moment_of call ≡ Some now → w.moment ≤ now → IfSome (next_event p) (λ t. now < t) → IsInTurn cmp w call

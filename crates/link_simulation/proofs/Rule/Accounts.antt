@@ -42,8 +42,7 @@ module _ {P : Type 0} (cmp : P → P → Ordering) (order : IsTotalOrder cmp) wh
 
   spent_alike : (p : Planned P) (w : World P) → CapsAlike cmp p.caps w.caps → (n : RatedFlight P) (g : Flight P)
       → IsDrawn n g → is_spent cmp p.caps n ≡ is_done cmp w g
-  spent_alike p w caps n g same =
-      rw (same.left, unlimited_alike cmp order p.caps w.caps caps n.message g.message same.message) refl
+  spent_alike p w caps n g same = grind (arith, unlimited_alike)
 
   drawn_messages : (fs : List (RatedFlight P)) (gs : List (Flight P)) → AllZip IsDrawn fs gs
       → AllZip (SameMessage cmp) (rated_messages fs) (map (λ (g : Flight P). g.message) gs)
@@ -137,7 +136,7 @@ module _ {P : Type 0} (cmp : P → P → Ordering) (order : IsTotalOrder cmp) wh
   }
     where
       still_empty : (old.sending ≡ []) × (old.waiting ≡ []) → (new.sending ≡ []) × (new.waiting ≡ [])
-      still_empty (sends, waits) = grind (arith, none_matched)
+      still_empty (sends) = grind (arith, none_matched)
 
       stays : List (RatedFlight P)
       stays = filter (λ (f : RatedFlight P). not (is_spent cmp old.caps f)) (drained_to t old.sending)

@@ -40,8 +40,7 @@ module _ {P : Type 0} (cmp : P → P → Ordering) (order : IsTotalOrder cmp) wh
 
   pub woken_stands : (t : ℕ) (p : Planned P) (w : World P) → t ≤ last_moment → IsWoken cmp order t p w
       → StandsFor cmp p w
-  woken_stands t p w within woken =
-      settled_stands cmp order t p w within woken.0 (none_ready_back cmp order t p w woken.0.follows.tallies woken.1)
+  woken_stands t p w within woken = grind (arith, settled_stands, none_ready_back)
 
   -- ---- up to now
 
@@ -277,11 +276,7 @@ module _ {P : Type 0} (cmp : P → P → Ordering) (order : IsTotalOrder cmp) wh
           )
 
       by_count : (n : ℕ) → now - w.moment ≡ n → TicksAlike now w course
-      by_count zero is =
-          let same : w.moment ≡ now = omega arith in
-          ends w (subst (λ (s : ℕ). Follows cmp s p w) same stands.follows) stands.quiet.none_done
-          (ap (λ (s : ℕ). ready cmp s w) (sym same) ∙ stands.quiet.none_ready)
-          (subst (λ (k : ℕ). Ticks cmp k w (goes [] w)) (sym is) no_tick)
+      by_count zero is = grind (arith, ends, ready, no_tick)
       by_count (suc k) is =
           let same : w.moment + suc k ≡ now = omega arith in
           let u : World P = later cmp order p w stands (suc k) in

@@ -41,10 +41,8 @@ module _ {P : Type 0} (cmp : P → P → Ordering) (order : IsTotalOrder cmp) wh
       → now ≤ last_moment → IsInTurn cmp w call → MayBeRefused cmp p call why → MayRefuse cmp w call why
   refuses p w call now OutOfMemory stands at within turn may = tt
   refuses p w call now NumberTooLarge stands at within turn may = may
-  refuses p w call now MomentTooLate stands at within turn may =
-      meets_too p w call now MomentTooLate stands at within turn may
-  refuses p w call now FlowIdsUsedUp stands at within turn may =
-      meets_too p w call now FlowIdsUsedUp stands at within turn may
+  refuses p w call now MomentTooLate stands at within turn may = grind (arith, meets_too)
+  refuses p w call now FlowIdsUsedUp stands at within turn may = grind (arith, meets_too)
 
   Follow : List (Call P) → Type 0
   Follow calls =

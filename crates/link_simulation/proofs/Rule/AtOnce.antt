@@ -63,20 +63,7 @@ module _ {P : Type 0} (cmp : P → P → Ordering) (order : IsTotalOrder cmp) wh
           (cond b (meets MomentTooLate)
           (goes (completion_of m now (if m.should_deliver then Some at_u else None) ∷ []) landed_u))
       by_late true same = refl
-      by_late false same = (
-        (
-          record {
-            origin = same_itself cmp order m.origin;
-            recipient = same_itself cmp order m.recipient;
-            channel = refl;
-            bytes = refl;
-            done_at = refl;
-            deliver_at = ap (λ (t : ℕ). if m.should_deliver then Some t else None) same;
-          },
-          tt,
-        ),
-        (stands same, follows.tallies.moment),
-      )
+      by_late false same = grind (arith, same_itself, stands)
 
   -- before any limit a message does in the planned world what it does in the world
   pub at_once_alike : (p : Planned P) (w : World P) (now : ℕ) (m : Message P) → StandsFor cmp p w → p.limited ≡ false

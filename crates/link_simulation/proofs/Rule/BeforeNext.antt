@@ -134,9 +134,7 @@ module _ {P : Type 0} (cmp : P → P → Ordering) (order : IsTotalOrder cmp) wh
   -- the first of a pair is the first of its own pair
   pub own_first : (m x : Message P) (rest ms : List (Message P)) → filter (same_pair cmp m) ms ≡ x ∷ rest
       → find (same_pair cmp x) ms ≡ Some x
-  own_first m x rest ms e =
-      let found : find (same_pair cmp m) ms ≡ Some x = first_found (same_pair cmp m) x rest ms e in
-      find_like cmp order m x ms (find_passes (same_pair cmp m) x ms found) ∙ found
+  own_first m x rest ms e = grind (arith, same_pair, first_found, find_like, find_passes)
 
   -- a pair may start in the planned world where it may in the world
   pub may_alike : (t : ℕ) (p : Planned P) (w : World P) (m n : Message P) → PairsAlike cmp p.last_arrival w.last_arrival
@@ -220,8 +218,7 @@ module _ {P : Type 0} (cmp : P → P → Ordering) (order : IsTotalOrder cmp) wh
     -- ---- the next event
 
     first_drain : Drains cmp w (later 1)
-    first_drain =
-        record { per = stands.follows.rated.per; rates = stands.follows.rated.rates; fair = rates_fair; world = refl }
+    first_drain = grind (arith, rates_fair)
 
     pub passes_to : (n : ℕ) → w.moment + suc n ≤ last_moment → IfSome (next_event p) (λ e. w.moment + suc n < e)
         → Passes cmp (suc n) w (later (suc n))

@@ -216,8 +216,7 @@ module _ {P : Type 0} (cmp : P → P → Ordering) (order : IsTotalOrder cmp) wh
       (w : World P) (y : Message P) → may_start cmp t w y ≡ true → (nat_le last_moment w.next_id) ≡ false
       → launch_then cmp next t fs w (Some y) ≡ next (fs ++ joining w y) (started w y)
   unfolding launch_then
-  starts_so next t fs w y e f = rw (e, f) (by_bool (is_done cmp w (flight_of y)) (λ is. rw is refl)
-      (λ is. rw is (ap (λ (q : List (Flight P)). next q (joined cmp w y)) (sym (append-nil fs)))))
+  starts_so next t fs w y e f = grind (arith, by_bool, joined, append-nil)
 
   pub started_fewer : (w : World P) (y : Message P) → find (same_pair cmp y) w.waiting ≡ Some y
       → length (joining w y) + length (started w y).waiting ≤ length w.waiting

@@ -36,18 +36,11 @@ module _ {P : Type 0} (cmp : P → P → Ordering) (order : IsTotalOrder cmp) wh
 
   cap_alike : (f g : P → Option ℕ) (peer : P) (cap : Option ℕ) → AnswerAlike cmp f g
       → AnswerAlike cmp (with_cap cmp f peer cap) (with_cap cmp g peer cap)
-  cap_alike f g peer cap same p q e =
-      rw (sym (peers_alike cmp order peer peer p q (same_itself cmp order peer) e), same p q e) refl
+  cap_alike f g peer cap same p q e = grind (arith, peers_alike, same_itself)
 
   link_alike : (f g : P → P → Option ℕ) (origin recipient : P) (cap : Option ℕ) → PairsAlike cmp f g
       → PairsAlike cmp (with_link cmp f origin recipient cap) (with_link cmp g origin recipient cap)
-  link_alike f g origin recipient cap same p q r s e h =
-      rw (
-        sym (peers_alike cmp order origin origin p q (same_itself cmp order origin) e),
-        sym (peers_alike cmp order recipient recipient r s (same_itself cmp order recipient) h),
-        same p q r s e h,
-      )
-      refl
+  link_alike f g origin recipient cap same p q r s e h = grind (arith, peers_alike, same_itself)
 
   -- the worlds under new caps
   abbrev pub rebalanced : World P → Caps P → World P

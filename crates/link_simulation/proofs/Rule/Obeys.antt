@@ -28,8 +28,7 @@ module _ {P : Type 0} (cmp : P → P → Ordering) (order : IsTotalOrder cmp) wh
       → Enqueues cmp now m p course → (w : World P) → StandsFor cmp p w
       → w.moment ≤ now → now ≤ last_moment → IfSome (next_event p) (λ t. now < t)
       → Follows p w (call_enqueue now m) now course
-  any_enqueue {now = now} {m = m} {p = p} (at_once free) w stands le within before =
-      at_once_alike cmp order p w now m stands free le within before
+  any_enqueue {now = now} {m = m} {p = p} (at_once free) w stands le within before = grind (arith, at_once_alike)
   any_enqueue {now = now} {m = m} {p = p} {course = course} (no_launch limits launch) w stands le within before =
       enqueues_alike cmp order p w now m course stands limits le within before (no_launch limits launch)
   any_enqueue {now = now} {m = m} {p = p} {course = course} (launches limits launch finishes) w stands le within

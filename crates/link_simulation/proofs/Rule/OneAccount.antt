@@ -47,8 +47,7 @@ no_messages (f ∷ fs) e = cc
 -- of a test that is decided there is a least moment, or none up to the last one
 least_from : (Q : ℕ → Type 0) → ((t : ℕ) → Q t ⊎ (Q t → ⊥)) → (n from : ℕ) → last_moment < from + n
     → ((s : ℕ) → Q s → from ≤ s) → (o : Option ℕ) × IsLeastMoment Q o
-least_from Q decide zero from end first =
-    (None, λ t le q. let past : from ≤ t = first t q in absurd (omega (arith, end, le, past)))
+least_from Q decide zero from end first = grind arith
 least_from Q decide (suc n) from end first =
     by_case (cases_lt last_moment from) (decide from) (least_from Q decide n (from + 1) (omega (arith, end)))
   where
@@ -354,8 +353,7 @@ module _ {P : Type 0} (cmp : P → P → Ordering) (order : IsTotalOrder cmp) wh
   pub none_and_one_leave : (id t : ℕ) (caps : Caps P) (fs : List (RatedFlight P)) (m : Message P)
       → is_spent cmp caps (starting id t m) ≡ false → drained_to t fs ≡ fs → filter (is_spent cmp caps) fs ≡ []
       → filter (is_spent cmp caps) (drained_to t (fs ++ starting id t m ∷ [])) ≡ []
-  none_and_one_leave id t caps fs m limited still none =
-      none_more_leaves id t caps fs m limited (ap (filter (is_spent cmp caps)) still ∙ none)
+  none_and_one_leave id t caps fs m limited still none = grind (arith, none_more_leaves, still)
 
   -- what is left after an account is in lowest terms
   pub account_lowest : (t : ℕ) (p q : Planned P) (ls : List (Message P)) → Accounts cmp t p ls q

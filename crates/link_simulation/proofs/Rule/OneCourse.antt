@@ -123,10 +123,8 @@ module _ {P : Type 0} (cmp : P → P → Ordering) (order : IsTotalOrder cmp) wh
   launch_of : {t : ℕ} {old : Planned P} {o : Option (Message P)} {c : Course (Message P) (Planned P)}
       → Launches cmp t old o c → (m : Message P) → o ≡ Some m → Launch t old m c
   launch_of nothing_waits n e = cc
-  launch_of {t = t} {old = old} (too_early {m = m} may) n e =
-      let same : m ≡ n = cc in inl (subst (λ (k : Message P). may_launch cmp t old k ≡ false) same may, refl)
-  launch_of {t = t} {old = old} (no_id {m = m} may last) n e =
-      let same : m ≡ n = cc in inr (inl (subst (λ (k : Message P). may_launch cmp t old k ≡ true) same may, last, refl))
+  launch_of {t = t} {old = old} (too_early {m = m} may) n e = grind arith
+  launch_of {t = t} {old = old} (no_id {m = m} may last) n e = grind arith
   launch_of {t = t} {old = old} (starts {m = m} {leavers = ls} {new = new} may below account) n e = grind arith
 
   launch_is_one : {t : ℕ} {old : Planned P} {o : Option (Message P)} {c : Course (Message P) (Planned P)}
@@ -170,8 +168,7 @@ module _ {P : Type 0} (cmp : P → P → Ordering) (order : IsTotalOrder cmp) wh
   finish_of : {t : ℕ} {ms : List (Message P)} {p : Planned P} {c : Course (Completed P) (Planned P)}
       → Finishes cmp t ms p c → (m : Message P) (ns : List (Message P)) → ms ≡ m ∷ ns → Finish t m ns p c
   finish_of (all_completed looks) n ns e = cc
-  finish_of {t = t} (late {m = m} is) n ns e =
-      let same : m ≡ n = cc in inl (subst (λ (k : Message P). is_late cmp t k ≡ true) same is, refl)
+  finish_of {t = t} (late {m = m} is) n ns e = grind arith
   finish_of {t = t} {p = p} (stopped {m = m} {fault = fault} in_time launch) n ns e = grind arith
   finish_of {t = t} {p = p} (completes {m = m} {ms = ms} {more = more} {q = q} {rest = rest} in_time launch finishes) n
       ns e = grind arith
@@ -281,8 +278,7 @@ module _ {P : Type 0} (cmp : P → P → Ordering) (order : IsTotalOrder cmp) wh
       f) same k.3)
   event_is_one now p t s e f (inl h) (inr k) = let same : s ≡ t = cc in absurd (k.0 (h.0 ∙ ap Some (sym same)))
   event_is_one now p t s e f (inr h) (inl k) = let same : s ≡ t = cc in absurd (h.0 (k.0 ∙ ap Some same))
-  event_is_one now p t s e f (inr h) (inr k) =
-      let same : s ≡ t = cc in wake_is_one h.3 f (subst (λ (u : ℕ). Wakes cmp u (record p { start = None }) f) same k.3)
+  event_is_one now p t s e f (inr h) (inr k) = grind (arith, wake_is_one)
 
   -- what follows an event
   abbrev AdvanceOn : ℕ → Course (Completed P) (Planned P) → ℕ → Course (Completed P) (Planned P) → Type 0
@@ -301,17 +297,14 @@ module _ {P : Type 0} (cmp : P → P → Ordering) (order : IsTotalOrder cmp) wh
   advance_of (no_more before wakes) = inl (before, wakes, refl)
   advance_of (at_finish {q = q} {t = t} {n = n} {cs = cs} {rest = rest} finish next due event more) =
       inr (t, goes cs q, inl (finish, next, due, event), (n, rest, more, refl, refl))
-  advance_of (at_start {q = q} {t = t} {n = n} {cs = cs} {rest = rest} finish next due event more) =
-      inr (t, goes cs q, inr (finish, next, due, event), (n, rest, more, refl, refl))
+  advance_of (at_start {q = q} {t = t} {n = n} {cs = cs} {rest = rest} finish next due event more) = grind arith
   advance_of (finish_stops {t = t} {fault = fault} finish next due event) =
       inr (t, meets fault, inl (finish, next, due, event), (refl, refl))
-  advance_of (start_stops {t = t} {fault = fault} finish next due event) =
-      inr (t, meets fault, inr (finish, next, due, event), (refl, refl))
+  advance_of (start_stops {t = t} {fault = fault} finish next due event) = grind arith
 
   none_due : (now : ℕ) (p : Planned P) (t : ℕ) → IfSome (next_event p) (λ s. now < s) → next_event p ≡ Some t → t ≤ now
       → ⊥
-  none_due now p t before is due =
-      let later : now < t = subst (λ (o : Option ℕ). IfSome o (λ s. now < s)) is before in absurd (omega arith)
+  none_due now p t before is due = grind arith
 
   due_at : (now : ℕ) (p : Planned P) (t : ℕ) (e : Course (Completed P) (Planned P)) → EventAt now p t e
       → (next_event p ≡ Some t) × (t ≤ now)

@@ -50,8 +50,7 @@ module _ {P : Type 0} (cmp : P → P → Ordering) (order : IsTotalOrder cmp) wh
 
   pub one_next : (p : Planned P) (w : World P) (told next : Option ℕ) → IsNextInSimulation cmp p told
       → StandsFor cmp p w → NextIs cmp w next → told ≡ next
-  one_next p w told next simulated stands is =
-      next_is_one cmp order w told next (sound_of_stands cmp order p w stands).positive (simulated w stands) is
+  one_next p w told next simulated stands is = grind (arith, next_is_one, sound_of_stands)
 
   -- ---- what a call may be refused for that could go
 

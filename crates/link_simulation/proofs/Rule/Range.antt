@@ -163,8 +163,7 @@ module _ {P : Type 0} (cmp : P → P → Ordering) (order : IsTotalOrder cmp) (m
       goes_on cs rest (advances_well more early after)
   advances_well {p = p} (finish_stops is next due event) early h =
       settles_well event (omega arith) (unplanned p None p.start h)
-  advances_well {p = p} (start_stops is next due event) early h =
-      wakes_well event (omega arith) (unplanned p p.finish None h)
+  advances_well {p = p} (start_stops is next due event) early h = grind (arith, wakes_well, unplanned)
 
   -- ---- new caps
 

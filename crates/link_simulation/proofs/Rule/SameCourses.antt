@@ -1,17 +1,16 @@
 -- A call has the same course on planned worlds that are the same up to equal peers.
 use Rattle.link_simulation.proofs.Common.{arith, ◌≡◌, ℕ, ◌<◌, ◌≤◌, List, [], ◌∷◌, ◌++◌, true, not, Option, Some, None}
-use Rattle.link_simulation.proofs.Common.{refl, sym, ◌∙◌, subst, IfSome, filter, AllZip, Ordering, IsTotalOrder}
-use Rattle.link_simulation.proofs.Common.{MomentTooLate, FlowIdsUsedUp, Message, Caps, CapsAlike, SameMessage, Parts}
-use Rattle.link_simulation.proofs.Common.{rate_of, Completed, Course, goes, meets, last_moment, preceded}
-use Rattle.link_simulation.proofs.Common.{completed, Call, SameCompletion, Planned, RatedFlight}
-use Rattle.link_simulation.proofs.Common.{IsLeastMoment, SomeSpentAt, SomeReadyAt, rated_messages, drained_to, next_of}
-use Rattle.link_simulation.proofs.Common.{is_spent, Accounts, PlansStart, Launches, nothing_waits}
-use Rattle.link_simulation.proofs.Common.{too_early, no_id, starts, launched, landed, Finishes, all_completed, late}
-use Rattle.link_simulation.proofs.Common.{stopped, completes, WakesEach, all_started, no_start, no_finish, starts_one}
-use Rattle.link_simulation.proofs.Common.{Wakes, Settles, settling, Rebalances, none_sending, some_sending}
-use Rattle.link_simulation.proofs.Common.{completed_at_once, with_queued, Enqueues, at_once, no_launch, launches}
-use Rattle.link_simulation.proofs.Common.{Advances, no_more, at_finish, at_start, finish_stops, start_stops, Obeys}
-use Rattle.link_simulation.proofs.Common.{EnqueuesEach, all_enqueued, one_stops, enqueues_one, IsSameRatedFlight}
+use Rattle.link_simulation.proofs.Common.{refl, sym, ◌∙◌, subst, filter, AllZip, Ordering, IsTotalOrder, MomentTooLate}
+use Rattle.link_simulation.proofs.Common.{FlowIdsUsedUp, Message, Caps, CapsAlike, SameMessage, Parts, rate_of}
+use Rattle.link_simulation.proofs.Common.{Completed, Course, goes, meets, last_moment, preceded, completed, Call}
+use Rattle.link_simulation.proofs.Common.{SameCompletion, Planned, RatedFlight, IsLeastMoment, SomeSpentAt, SomeReadyAt}
+use Rattle.link_simulation.proofs.Common.{rated_messages, drained_to, next_of, is_spent, Accounts, PlansStart, Launches}
+use Rattle.link_simulation.proofs.Common.{nothing_waits, too_early, no_id, starts, launched, landed, Finishes}
+use Rattle.link_simulation.proofs.Common.{all_completed, late, stopped, completes, WakesEach, all_started, no_start}
+use Rattle.link_simulation.proofs.Common.{no_finish, starts_one, Wakes, Settles, settling, Rebalances, none_sending}
+use Rattle.link_simulation.proofs.Common.{some_sending, completed_at_once, with_queued, Enqueues, at_once, no_launch}
+use Rattle.link_simulation.proofs.Common.{launches, Advances, no_more, at_finish, at_start, finish_stops, start_stops}
+use Rattle.link_simulation.proofs.Common.{Obeys, EnqueuesEach, all_enqueued, one_stops, enqueues_one, IsSameRatedFlight}
 use Rattle.link_simulation.proofs.Common.{IsSamePlanned, same_limit, same_limit_link, same_enqueue, same_enqueue_all}
 use Rattle.link_simulation.proofs.Common.{same_advance, same_next, zip-append}
 use Rattle.link_simulation.specs.Rule.SamePlanned.{IsSameCall, IsSameCourse}
@@ -297,11 +296,8 @@ module _ {P : Type 0} (cmp : P → P → Ordering) (order : IsTotalOrder cmp) wh
       → AllZip (SameMessage cmp) ms ns → IsSamePlanned cmp p q
       → (c : Course (Completed P) (Planned P)) × EnqueuesEach cmp now ns q c × IsSameCourse cmp course c
   each_same all_enqueued [] q messages same = (goes [] q, all_enqueued, (tt, same))
-  each_same {now = now} (one_stops {fault = fault} one) (n ∷ ns) q messages same = (
-    meets fault,
-    one_stops (course_met cmp order (λ c. Enqueues cmp now n q c) fault (enqueue_same one n q messages.0 same)),
-    refl,
-  )
+  each_same {now = now} (one_stops {fault = fault} one) (n ∷ ns) q messages same =
+      grind (arith, one_stops, course_met, enqueue_same)
   each_same {now = now} (enqueues_one {q = r} {cs = cs} {rest = rest} one more) (n ∷ ns) q messages same =
       let done : Went (λ c. Enqueues cmp now n q c) cs r = grind (arith, course_went, enqueue_same) in
       let later = each_same more ns done.1 messages.1 done.4 in (
@@ -315,11 +311,7 @@ module _ {P : Type 0} (cmp : P → P → Ordering) (order : IsTotalOrder cmp) wh
       → Advances cmp now p n course → (q : Planned P) → IsSamePlanned cmp p q
       → (c : Course (Completed P) (Planned P)) × Advances cmp now q n c × IsSameCourse cmp course c
   advance_same {now = now} (no_more {p = p} {course = course} after wakes) q same =
-      let done = wakes_same now p q course same wakes in (
-        done.0,
-        no_more (subst (λ (o : Option ℕ). IfSome o (λ t. now < t)) (next_event_same cmp order p q same) after) done.1,
-        done.2,
-      )
+      grind (arith, wakes_same, no_more, next_event_same)
   advance_same {now = now}
       (at_finish {p = p} {q = r} {t = t} {n = n} {cs = cs} {rest = rest} finish next within settles advances) q same =
       let done = course_went cmp order (λ c. Settles cmp t (record q { finish = None }) c) cs r (settle_same settles
@@ -371,10 +363,8 @@ module _ {P : Type 0} (cmp : P → P → Ordering) (order : IsTotalOrder cmp) wh
   obey_same (same_limit_link {now = now} {origin = origin} {recipient = recipient} {o = o} {r = r} {cap = cap} origins
       recipients) p q course same obeys = rebalance_same obeys _ q (linked_by_same cmp order p.caps q.caps origin
       recipient o r cap same.caps origins recipients) same
-  obey_same (same_enqueue {now = now} {m = m} {n = n} messages) p q course same obeys =
-      enqueue_same obeys n q messages same
-  obey_same (same_enqueue_all {now = now} {ms = ms} {ns = ns} messages) p q course same obeys =
-      each_same obeys ns q messages same
+  obey_same (same_enqueue {now = now} {m = m} {n = n} messages) p q course same obeys = grind (arith, enqueue_same)
+  obey_same (same_enqueue_all {now = now} {ms = ms} {ns = ns} messages) p q course same obeys = grind (arith, each_same)
   obey_same (same_advance {now = now}) p q course same (n, advances) = grind (arith, advance_same)
   obey_same same_next p q course same obeys = grind arith
 

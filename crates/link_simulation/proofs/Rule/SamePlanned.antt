@@ -1,9 +1,8 @@
 -- Planned worlds that are the same up to equal peers: each is the same as itself, whichever stands first, and along a
 -- chain.
-use Rattle.link_simulation.proofs.Common.{arith, ◌≡◌, List, [], ◌∷◌, refl, sym, ◌∙◌, true, AllZip, Ordering}
-use Rattle.link_simulation.proofs.Common.{IsTotalOrder, same_peer, Message, Caps, CapsAlike, PairsAlike, SameMessage}
-use Rattle.link_simulation.proofs.Common.{RatedFlight, Planned, IsSameRatedFlight, IsSamePlanned, peer_sym, zip_chain}
-use Rattle.link_simulation.proofs.Common.{zip-same}
+use Rattle.link_simulation.proofs.Common.{arith, ◌≡◌, List, [], ◌∷◌, sym, ◌∙◌, true, AllZip, Ordering, IsTotalOrder}
+use Rattle.link_simulation.proofs.Common.{same_peer, Message, Caps, CapsAlike, PairsAlike, SameMessage, RatedFlight}
+use Rattle.link_simulation.proofs.Common.{Planned, IsSameRatedFlight, IsSamePlanned, peer_sym, zip_chain, zip-same}
 use Rattle.link_simulation.specs.Simulation.Messages.{AnswerAlike}
 use Rattle.link_simulation.proofs.Simulation.AlikeMessages.{same_itself as one_peer, message_itself}
 
@@ -50,8 +49,7 @@ module _ {P : Type 0} (cmp : P → P → Ordering) (order : IsTotalOrder cmp) wh
   -- ---- what is in flight
 
   paced_itself : (f : RatedFlight P) → IsSameRatedFlight cmp f f
-  paced_itself f =
-      record { id = refl; message = message_itself cmp order f.message; left = refl; rate = refl; updated = refl }
+  paced_itself f = grind (arith, message_itself)
 
   pub paced_turned : (f g : RatedFlight P) → IsSameRatedFlight cmp f g → IsSameRatedFlight cmp g f
   paced_turned f g e = grind arith

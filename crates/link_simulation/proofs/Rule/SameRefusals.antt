@@ -25,8 +25,7 @@ module _ {P : Type 0} (cmp : P → P → Ordering) (order : IsTotalOrder cmp) wh
 
   pub call_itself : (call : Call P) → IsSameCall cmp call call
   call_itself (call_limit now peer egress ingress) = same_limit (one_peer cmp order peer)
-  call_itself (call_limit_link now origin recipient cap) =
-      same_limit_link (one_peer cmp order origin) (one_peer cmp order recipient)
+  call_itself (call_limit_link now origin recipient cap) = grind (arith, same_limit_link, one_peer)
   call_itself (call_enqueue now m) = same_enqueue (message_itself cmp order m)
   call_itself (call_enqueue_all now ms) = same_enqueue_all (zip-same (SameMessage cmp) (message_itself cmp order) ms)
   call_itself (call_advance now) = same_advance

@@ -76,10 +76,7 @@ module _ {P : Type 0} (cmp : P → P → Ordering) (order : IsTotalOrder cmp) wh
   }
     where
       still_empty : (p.sending ≡ []) × (p.waiting ≡ []) → (q.sending ≡ []) × (q.waiting ≡ [])
-      still_empty (sends, waits) = (
-        none_same (IsSameRatedFlight cmp) p.sending q.sending same.sending sends,
-        none_same (SameMessage cmp) p.waiting q.waiting same.waiting waits,
-      )
+      still_empty (sends) = grind (arith, none_same)
 
   pub stands_same : (p q : Planned P) (w : World P) → IsSamePlanned cmp p q → StandsFor cmp p w → StandsFor cmp q w
   stands_same p q w same stands =

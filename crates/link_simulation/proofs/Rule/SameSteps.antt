@@ -41,8 +41,7 @@ pub at_same : {X Y : Type 0} (R : X → Y → Type 0) (xs : List X) (ys : List Y
     → slice_get xs i ≡ Some x → (y : Y) × (slice_get ys i ≡ Some y) × R x y
 at_same R [] ys i x all at = cc
 at_same R (z ∷ zs) [] i x all at = absurd all
-at_same {X = X} R (z ∷ zs) (y ∷ ys) zero x all at =
-    let same : z ≡ x = cc in (y, refl, subst (λ (v : X). R v y) same all.0)
+at_same {X = X} R (z ∷ zs) (y ∷ ys) zero x all at = grind arith
 at_same R (z ∷ zs) (y ∷ ys) (suc i) x all at = at_same R zs ys i x all.1 at
 
 pub none_same : {X Y : Type 0} (R : X → Y → Type 0) (xs : List X) (ys : List Y) → AllZip R xs ys → xs ≡ [] → ys ≡ []
@@ -104,11 +103,7 @@ module _ {P : Type 0} (cmp : P → P → Ordering) (order : IsTotalOrder cmp) wh
   pub limited_by_same : (caps others : Caps P) (peer other : P) (egress ingress : Option ℕ) → CapsAlike cmp caps others
       → same_peer cmp peer other ≡ true
       → CapsAlike cmp (limited_by cmp caps peer egress ingress) (limited_by cmp others other egress ingress)
-  limited_by_same caps others peer other egress ingress same peers = record {
-    egress = λ p q e. rw (peers_alike cmp order peer other p q peers e, same.egress p q e) refl;
-    ingress = λ p q e. rw (peers_alike cmp order peer other p q peers e, same.ingress p q e) refl;
-    link = same.link;
-  }
+  limited_by_same caps others peer other egress ingress same peers = grind (arith, peers_alike)
 
   pub linked_by_same : (caps others : Caps P) (origin recipient o r : P) (cap : Option ℕ) → CapsAlike cmp caps others
       → same_peer cmp origin o ≡ true → same_peer cmp recipient r ≡ true
@@ -188,8 +183,7 @@ module _ {P : Type 0} (cmp : P → P → Ordering) (order : IsTotalOrder cmp) wh
 
   launching_same : (i j t : ℕ) (m n : Message P) → i ≡ j → SameMessage cmp m n
       → IsSameRatedFlight cmp (launching i t m) (launching j t n)
-  launching_same i j t m n same e =
-      record { id = same; message = e; left = rw e.bytes refl; rate = refl; updated = refl }
+  launching_same i j t m n same e = grind arith
 
   module _ (p q : Planned P) (same : IsSamePlanned cmp p q) where
     pub spent_same : (f g : RatedFlight P) → IsSameRatedFlight cmp f g → is_spent cmp p.caps f ≡ is_spent cmp q.caps g
@@ -208,14 +202,7 @@ module _ {P : Type 0} (cmp : P → P → Ordering) (order : IsTotalOrder cmp) wh
     -- ---- what waits
 
     pub may_same : (t : ℕ) (m n : Message P) → SameMessage cmp m n → may_launch cmp t p m ≡ may_launch cmp t q n
-    may_same t m n e =
-        rw (
-          any_alike cmp order (SameMessage cmp) (same_pair cmp m) (same_pair cmp n)
-              (λ k l f. pairs_alike cmp order m n k l e f) (rated_messages p.sending) (rated_messages q.sending)
-              (flows_same p.sending q.sending same.sending),
-          same.last_arrival m.origin n.origin m.recipient n.recipient e.origin e.recipient,
-          e.latency,
-        ) refl
+    may_same t m n e = grind (arith, any_alike, same_pair, pairs_alike, flows_same)
 
     pub next_same : (m n : Message P) → SameMessage cmp m n
         → OptionsAlike (SameMessage cmp) (next_of cmp p m) (next_of cmp q n)

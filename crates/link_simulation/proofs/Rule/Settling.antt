@@ -34,15 +34,7 @@ module _ {P : Type 0} (cmp : P → P → Ordering) (order : IsTotalOrder cmp) wh
 
   pub completed_alike : (t : ℕ) (m n : Message P) → SameMessage cmp m n
       → SameCompletion cmp (completed cmp t m) (completed cmp t n)
-  completed_alike t m n e =
-      record {
-        origin = e.origin;
-        recipient = e.recipient;
-        channel = e.channel;
-        bytes = e.bytes;
-        done_at = refl;
-        deliver_at = rw (delivered_alike cmp order m n e, e.latency) refl;
-      }
+  completed_alike t m n e = grind (arith, delivered_alike)
 
   pub raised_alike : (last last' : P → P → Option ℕ) (m n : Message P) (at at' : ℕ) → PairsAlike cmp last last'
       → SameMessage cmp m n → at ≡ at' → PairsAlike cmp (raised cmp last m at) (raised cmp last' n at')

@@ -1,5 +1,5 @@
 -- Lists of messages that are the same up to equal peers have the same sides, and so the same fair rates.
-use Rattle.link_simulation.proofs.Common.{not, sym, ◌∙◌, peer_sym, arith, ◌+◌, ◌≡◌, ℕ, List, [], ◌∷◌, Bool, true}
+use Rattle.link_simulation.proofs.Common.{peer_sym, arith, ◌+◌, ◌≡◌, ℕ, List, [], ◌∷◌, Bool, true}
 use Rattle.link_simulation.proofs.Common.{Option, Some, None, refl, ap, if◌then◌else◌, list_any, flat_map, AllZip}
 use Rattle.link_simulation.proofs.Common.{Ordering, is_eq, IsTotalOrder, same_peer, Message, SameMessage, is_delivered}
 use Rattle.link_simulation.proofs.Common.{same_pair, Caps, CapsAlike, AreFair, Parts, capped_sides, is_unlimited}
@@ -18,20 +18,14 @@ module _ {P : Type 0} (cmp : P → P → Ordering) (order : IsTotalOrder cmp) wh
 
   pub peers_alike : (p q r s : P) → same_peer cmp p q ≡ true → same_peer cmp r s ≡ true
       → same_peer cmp p r ≡ same_peer cmp q s
-  peers_alike p q r s e f =
-      sym (peer_like cmp order p q r e) ∙ peer_sym cmp order q r ∙ sym (peer_like cmp order r s q f)
-      ∙ peer_sym cmp order s q
+  peers_alike p q r s e f = grind (arith, peer_like, peer_sym)
 
   pub pairs_alike : (m n k l : Message P) → SameMessage cmp m n → SameMessage cmp k l
       → same_pair cmp m k ≡ same_pair cmp n l
-  pairs_alike m n k l f g =
-      both_alike cmp order _ _ _ _ (peers_alike m.origin n.origin k.origin l.origin f.origin g.origin)
-      (peers_alike m.recipient n.recipient k.recipient l.recipient f.recipient g.recipient)
+  pairs_alike m n k l f g = grind (arith, both_alike, peers_alike)
 
   pub delivered_alike : (m n : Message P) → SameMessage cmp m n → is_delivered cmp m ≡ is_delivered cmp n
-  delivered_alike m n e =
-      both_alike cmp order m.should_deliver n.should_deliver _ _ e.should_deliver
-      (ap not (peers_alike m.origin n.origin m.recipient n.recipient e.origin e.recipient))
+  delivered_alike m n e = grind (arith, both_alike, peers_alike)
 
   pub message_itself : (m : Message P) → SameMessage cmp m m
   message_itself m = grind arith
@@ -57,17 +51,12 @@ module _ {P : Type 0} (cmp : P → P → Ordering) (order : IsTotalOrder cmp) wh
   module _ (caps others : Caps P) (same : CapsAlike cmp caps others) where
     egress_alike : (m n : Message P) (ms ns : List (Message P)) → SameMessage cmp m n → AllZip (SameMessage cmp) ms ns
         → egress_side cmp caps ms m ≡ egress_side cmp others ns n
-    egress_alike m n ms ns e all =
-        side_alike _ _ _ _ ms ns (same.egress m.origin n.origin e.origin) (places_alike _ _ _
-        (λ k l f. peers_alike m.origin n.origin k.origin l.origin e.origin f.origin) 0 ms ns all)
+    egress_alike m n ms ns e all = grind (arith, side_alike, places_alike, peers_alike)
 
     ingress_alike : (m n : Message P) (ms ns : List (Message P)) → SameMessage cmp m n → AllZip (SameMessage cmp) ms ns
         → ingress_side cmp caps ms m ≡ ingress_side cmp others ns n
     ingress_alike m n ms ns e all =
-        side_alike _ _ _ _ ms ns (if_alike _ _ _ _ None (delivered_alike m n e)
-        (same.ingress m.recipient n.recipient e.recipient)) (places_alike _ _ _
-        (λ k l f. both_alike cmp order _ _ _ _ (delivered_alike k l f) (peers_alike m.recipient n.recipient k.recipient
-        l.recipient e.recipient f.recipient)) 0 ms ns all)
+        grind (arith, side_alike, if_alike, delivered_alike, places_alike, both_alike, peers_alike)
 
     link_alike : (m n : Message P) (ms ns : List (Message P)) → SameMessage cmp m n → AllZip (SameMessage cmp) ms ns
         → link_side cmp caps ms m ≡ link_side cmp others ns n
@@ -87,13 +76,7 @@ module _ {P : Type 0} (cmp : P → P → Ordering) (order : IsTotalOrder cmp) wh
     sides_alike ms ns all = sides_for_alike ms ns ms ns all all
 
     pub unlimited_alike : (m n : Message P) → SameMessage cmp m n → is_unlimited cmp caps m ≡ is_unlimited cmp others n
-    unlimited_alike m n e =
-        rw (
-          same.egress m.origin n.origin e.origin,
-          delivered_alike m n e,
-          same.ingress m.recipient n.recipient e.recipient,
-          same.link m.origin n.origin m.recipient n.recipient e.origin e.recipient,
-        ) refl
+    unlimited_alike m n e = grind (arith, delivered_alike)
 
     rates_alike : (parts : ℕ → ℕ) (place : ℕ) (ms ns : List (Message P)) → AllZip (SameMessage cmp) ms ns
         → rates_from cmp caps parts place ms ≡ rates_from cmp others parts place ns

@@ -1,6 +1,6 @@
 -- What every instant keeps: the moment, and that nothing is done at its end.
 use Rattle.link_simulation.proofs.Common.{common_steps, ◌≡◌, ℕ, suc, ◌+◌, ◌≤◌, List, [], ◌∷◌, ◌++◌, length, Option}
-use Rattle.link_simulation.proofs.Common.{Some, None, refl, sym, ap, ◌∙◌, subst, arith, ◌⊎◌, inl, inr, nat_le, Ordering}
+use Rattle.link_simulation.proofs.Common.{Some, None, refl, sym, ap, subst, arith, ◌⊎◌, inl, inr, nat_le, Ordering}
 use Rattle.link_simulation.proofs.Common.{IsTotalOrder, without_first, Completed, Course, IsQuiet, World, complete}
 use Rattle.link_simulation.proofs.Common.{goes, instant, is_done, last_moment, meets, raised, settle, start}
 use Rattle.link_simulation.proofs.Common.{start_next, wake_within, EndsWith, flight_of, Message, same_pair, Drains}
@@ -120,10 +120,5 @@ module _ {P : Type 0} (cmp : P → P → Ordering) (order : IsTotalOrder cmp) wh
           → (u.moment + n ≤ last_moment → (es ≡ []) ⊎ ((t : ℕ) × (t ≤ u.moment + n) × NextIs cmp u (Some t)))
           → (cs ≡ []) ⊎ ((t : ℕ) × (t ≤ w.moment + suc n) × NextIs cmp w (Some t))
       by_quiet (inr loud) at join ih = inr (z.moment, omega arith, comes_next no_time d loud (omega arith))
-      by_quiet (inl q) at {es} join ih =
-          let same : goes [] z ≡ goes ds u = sym (instant_quiet cmp order z q) ∙ i in
-          let empty : ds ≡ [] = cc in
-          let here : u ≡ z = cc in
-          let there : u.moment ≡ z.moment = ap (λ (y : World P). y.moment) here in
-          by_rest q empty here (omega arith) join (ih (omega arith))
+      by_quiet (inl q) at {es} join ih = grind (arith, instant_quiet, by_rest)
   first_event (tick_faults d i) cs v e le = cc

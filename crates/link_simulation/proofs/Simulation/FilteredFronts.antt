@@ -1,11 +1,8 @@
 -- What a filter leaves of first elements, fronts and least pairs.
-use Rattle.link_simulation.proofs.Common.{Less, Equal, Greater, is_lt, arith, ◌≡◌, List, [], ◌∷◌, map, Bool, true}
-use Rattle.link_simulation.proofs.Common.{false, cond, Option, Some, None, refl, sym, ap, ◌∙◌, subst, if◌then◌else◌}
-use Rattle.link_simulation.proofs.Common.{filter, find, list_any, Ordering, IsTotalOrder, without_first, fronts}
-use Rattle.link_simulation.proofs.Common.{least_pair, Message, pair_before, same_pair, Each, each_map, filter_stronger}
-use Rattle.link_simulation.proofs.Common.{rules}
-use Rattle.std.specs.Ordering.{ordering_reverse}
-use Rattle.std.proofs.lemmas.Cmp.{alike_right}
+use Rattle.link_simulation.proofs.Common.{arith, ◌≡◌, List, [], ◌∷◌, map, Bool, true, false, cond, Option, Some, None}
+use Rattle.link_simulation.proofs.Common.{refl, sym, ap, ◌∙◌, subst, if◌then◌else◌, filter, find, list_any, Ordering}
+use Rattle.link_simulation.proofs.Common.{IsTotalOrder, without_first, fronts, least_pair, Message, pair_before}
+use Rattle.link_simulation.proofs.Common.{same_pair, Each, each_map, filter_stronger, rules}
 use Rattle.link_simulation.proofs.Simulation.PairOrder.{pair_cmp, pairs_total, least_none, not_before_itself}
 use Rattle.link_simulation.proofs.Simulation.PairOrder.{not_before_back}
 use Rattle.fairness.proofs.Lists.Sorted.{is_lt_less}
@@ -51,14 +48,7 @@ module _ {P : Type 0} (cmp : P → P → Ordering) (order : IsTotalOrder cmp) wh
 
   pub before_both : (k m n : Message P) → pair_before cmp k m ≡ true → pair_before cmp n m ≡ false
       → pair_before cmp k n ≡ true
-  before_both k m n e f = by_order (pair_cmp cmp order n m) refl f
-    where
-      by_order : (o : Ordering) → pair_cmp cmp order n m ≡ o → is_lt o ≡ false → pair_before cmp k n ≡ true
-      by_order Less is g = cc
-      by_order Equal is g = ap is_lt (alike_right (pairs_total cmp order) n m k is) ∙ e
-      by_order Greater is g =
-          ap is_lt ((pairs_total cmp order).trans k m n (is_lt_less (pair_cmp cmp order k m) e)
-          ((pairs_total cmp order).antisymm m n ∙ ap ordering_reverse is))
+  before_both k m n e f = grind (arith, pair_cmp, pairs_total, is_lt_less)
 
   not_below : (k m n : Message P) → pair_before cmp n m ≡ false → pair_before cmp k n ≡ false
       → pair_before cmp k m ≡ false

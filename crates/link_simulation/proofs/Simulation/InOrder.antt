@@ -117,14 +117,7 @@ module _ {P : Type 0} (cmp : P → P → Ordering) (order : IsTotalOrder cmp) wh
       own = by_place (each_least cmp order _ (x ∷ xs) y among least)
 
       among_rest : Each (IsAmong ms) (filter (apart cmp order y) (x ∷ xs))
-      among_rest = each_map _ _ _ (λ z k. by_head z k.0 k.1) (each_filtered _ (apart cmp order y) (x ∷ xs) among)
-        where
-          by_head : (z : Message P) → SameMessage cmp m z ⊎ IsAmong ms z → apart cmp order y z ≡ true → IsAmong ms z
-          by_head z (inl same) off =
-              let pair = sym (pairs_alike cmp order m y m z own same) ∙ pair_itself cmp order m in
-              let none : same_pair cmp y z ≡ false = not-true _ off in
-              cc
-          by_head z (inr rest) off = rest
+      among_rest = grind (arith, each_map, each_filtered, apart, y, pairs_alike, own, pair_itself, same_pair, not-true)
 
       has_rest : Each (HasIn (filter (apart cmp order y) (x ∷ xs))) ms
       has_rest = each_map _ _ ms (λ n k. stays n k.0 k.1) (each_both _ _ ms has.1 sorted.0)
@@ -200,5 +193,4 @@ module _ {P : Type 0} (cmp : P → P → Ordering) (order : IsTotalOrder cmp) wh
   -- where nothing is ready in the world, nothing is in the planned world
   pub none_ready_back : (t : ℕ) (p : Planned P) (w : World P) → Tallies cmp t p w → ready cmp t w ≡ []
       → ¬ SomeReadyAt cmp p t
-  none_ready_back t p w same none some =
-      subst (λ (xs : List (Message P)). HasIn xs some.0) none (in_ready t p w some.0 same some.1 some.2)
+  none_ready_back t p w same none some = grind (arith, in_ready)

@@ -14,9 +14,7 @@ module _ {P : Type 0} (cmp : P → P → Ordering) (order : IsTotalOrder cmp) wh
   drained_positive : (per : ℕ) (rate : Option ℕ) (n : ℕ) (left : Amount) → 0 < per → 0 < left.den
       → 0 < (drained_by (rate_of per rate) n left).den
   drained_positive per None n left h j = omega arith
-  drained_positive per (Some a) n left h j =
-      let rate : Amount = reduced a per in
-      reduced_positive _ _ (mul-pos j (mul-pos (reduced_positive a per h) (omega arith)))
+  drained_positive per (Some a) n left h j = grind (arith, reduced, reduced_positive, mul-pos)
 
   pub drain_each_positive : (per : ℕ) (rates : Parts) (n : ℕ) (fs : List (Flight P)) → 0 < per → ArePositive fs
       → ArePositive (drain_each per rates n fs)
@@ -33,8 +31,7 @@ module _ {P : Type 0} (cmp : P → P → Ordering) (order : IsTotalOrder cmp) wh
   first_step : {k : ℕ} {w x : World P} → Passes cmp k w x → (m : ℕ) → k ≡ suc m
       → (v : World P) × Drains cmp w v × IsQuiet cmp v.moment v × Passes cmp m v x
   first_step no_time m e = absurd (omega arith)
-  first_step (quiet_tick {n = n} {v = v} {u = u} d q p) m e =
-      let same : n ≡ m = omega arith in (v, d, q, subst (λ (k : ℕ). Passes cmp k v u) same p)
+  first_step (quiet_tick {n = n} {v = v} {u = u} d q p) m e = grind arith
 
   -- what passes longer passes here quietly
   passes_through : {n : ℕ} {w v : World P} → Passes cmp n w v → (k : ℕ) (x u : World P) → Passes cmp (suc k) w x → n ≤ k

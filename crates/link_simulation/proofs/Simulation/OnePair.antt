@@ -160,9 +160,7 @@ module _ {P : Type 0} (cmp : P → P → Ordering) (order : IsTotalOrder cmp) (y
 
   pub may_others : (t : ℕ) (w v : World P) (m : Message P) → OnlyPair w v → apart m ≡ true
       → may_start cmp t v m ≡ may_start cmp t w m
-  may_others t w v m only off =
-      let e : same_pair cmp y m ≡ false = not-true (same_pair cmp y m) off in
-      rw (only.busy m e, only.last m.origin m.recipient e) refl
+  may_others t w v m only off = grind (arith, same_pair, not-true)
 
   -- those that were ready still are, but for the pair of y
   pub ready_after : (t : ℕ) (w v : World P) → IsAfter t w v → ready cmp t v ≡ filter apart (ready cmp t w)

@@ -27,8 +27,7 @@ module _ {P : Type 0} (cmp : P → P → Ordering) (order : IsTotalOrder cmp) wh
   first_tick : {k : ℕ} {w : World P} {c : Course (Completed P) (World P)} → Ticks cmp k w c → (m : ℕ) → k ≡ suc m
       → GoesOn m w c ⊎ Stops w c
   first_tick no_tick m e = absurd (omega arith)
-  first_tick (one_tick {n = n} {v = v} {u = u} {cs = cs} {rest = rest} d i t) m e =
-      let same : n ≡ m = omega arith in inl (v, u, cs, rest, d, i, subst (λ (k : ℕ). Ticks cmp k u rest) same t, refl)
+  first_tick (one_tick {n = n} {v = v} {u = u} {cs = cs} {rest = rest} d i t) m e = grind arith
   first_tick (tick_faults {v = v} {fault = fault} d i) m e = inr (v, fault, d, i, refl)
 
   state_of : (cs ds : List (Completed P)) (v u : World P)

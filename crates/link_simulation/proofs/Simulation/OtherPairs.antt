@@ -1,5 +1,5 @@
 -- What happens to one pair leaves the other pairs as they are.
-use Rattle.link_simulation.proofs.Common.{nat_le, last_moment, FlowIdsUsedUp, ◌&&◌, is_in_order, is_late, completed}
+use Rattle.link_simulation.proofs.Common.{nat_le, last_moment, FlowIdsUsedUp, is_late, completed}
 use Rattle.link_simulation.proofs.Common.{MomentTooLate, arith, ◌≡◌, ℕ, ◌+◌, List, [], ◌∷◌, ◌++◌, map, Bool, true}
 use Rattle.link_simulation.proofs.Common.{false, not, Option, Some, None, refl, sym, ap, ◌∙◌, ⊤, ◌||◌, ◌==◌, filter}
 use Rattle.link_simulation.proofs.Common.{find, list_any, Ordering, IsTotalOrder, list_any-append, filter-append}
@@ -123,17 +123,11 @@ module _ {P : Type 0} (cmp : P → P → Ordering) (order : IsTotalOrder cmp) wh
   -- whether another pair's message may start does not change
   pub may_start_alike : (t : ℕ) (m x : Message P) (w v : World P) → IsButFor cmp m w v → same_pair cmp m x ≡ false
       → may_start cmp t v x ≡ may_start cmp t w x
-  may_start_alike t m x w v a h = both _ _ _ _ (idle_alike m x w v a h) (a.arrivals x h)
-    where
-      both : (a b : Bool) (p q : Option ℕ) → a ≡ b → p ≡ q
-          → (a && is_in_order p (t + x.latency)) ≡ (b && is_in_order q (t + x.latency))
-      both a b p q e f = rw (e, f) refl
+  may_start_alike t m x w v a h = grind (arith, idle_alike)
 
   pub first_alike : (m k : Message P) (w v : World P) → IsButFor cmp m w v → same_pair cmp m k ≡ false
       → first_waiting cmp v k ≡ first_waiting cmp w k
-  first_alike m k w v a h =
-      sym (find_kept _ (λ n. not _) v.waiting (λ n e. pair_other m n k h e)) ∙ ap (find _) a.waiting ∙ find_kept _
-      (λ n. not _) w.waiting (λ n e. pair_other m n k h e)
+  first_alike m k w v a h = grind (arith, find_kept, pair_other)
 
   -- nothing that another pair sees changes
   pub others_see_nothing : (m k : Message P) (w v : World P) → IsButFor cmp m w v → same_pair cmp m k ≡ false

@@ -1,8 +1,8 @@
 -- The order of pairs, and lists in that order.
 use Rattle.link_simulation.proofs.Common.{arith, ◌≡◌, List, [], ◌∷◌, Bool, true, false, cond, Option, Some, None, refl}
-use Rattle.link_simulation.proofs.Common.{sym, ap, ◌∙◌, subst, find, Ordering, Less, Equal, Greater, is_eq, is_lt}
+use Rattle.link_simulation.proofs.Common.{sym, ap, ◌∙◌, find, Ordering, Less, Equal, Greater, is_eq, is_lt}
 use Rattle.link_simulation.proofs.Common.{IsTotalOrder, least_pair, Message, OneForEachPair, pair_before, same_pair}
-use Rattle.link_simulation.proofs.Common.{Each, find_from_any}
+use Rattle.link_simulation.proofs.Common.{Each, find_from_any, subst}
 use Rattle.link_simulation.proofs.Simulation.Queue.{pair_like}
 use Rattle.std.specs.Ordering.{is_gt, ordering_reverse, ordering_then}
 use Rattle.std.specs.Cmp.{then_total, tied_then, upto}

@@ -4,7 +4,7 @@ use Rattle.link_simulation.proofs.Common.{◌≡◌, ℕ, zero, suc, ◌≤◌, 
 use Rattle.link_simulation.proofs.Common.{Option, Some, None, refl, sym, ap, ◌∙◌, subst, arith, ⊤, filter, find}
 use Rattle.link_simulation.proofs.Common.{list_any, Ordering, IsTotalOrder, not-true, Completed, Course, EndsWith}
 use Rattle.link_simulation.proofs.Common.{IsQuiet, World, and_then, complete, fronts, goes, is_done, least_pair}
-use Rattle.link_simulation.proofs.Common.{may_start, meets, preceded, ready, settle, start, start_next, turn, wake}
+use Rattle.link_simulation.proofs.Common.{meets, preceded, ready, settle, start, start_next, turn, wake}
 use Rattle.link_simulation.proofs.Common.{wake_within, Message, OneForEachPair, pair_before, same_pair, each_filtered}
 use Rattle.link_simulation.proofs.Common.{find_from_any, length-without_first, by_bool, ◌+◌}
 use Rattle.link_simulation.specs.Simulation.Pass.{IsByPair, by_pair, wake_each}
@@ -53,8 +53,7 @@ module _ {P : Type 0} (cmp : P → P → Ordering) (order : IsTotalOrder cmp) wh
   next_waits : (n t : ℕ) (w : World P) (o : Option (Message P)) → WaitAtMost n w
       → EndsWith (WaitAtMost n) (start_next cmp t w o)
   next_waits n t w None h = h
-  next_waits n t w (Some x) h =
-      ends_cond (WaitAtMost n) (may_start cmp t w x) (start cmp w x) (goes [] w) (start_waits n w x h) h
+  next_waits n t w (Some x) h = grind (arith, ends_cond, start, start_waits)
 
   pub complete_waits : (n t : ℕ) (w : World P) (m : Message P) → WaitAtMost n w
       → EndsWith (WaitAtMost n) (complete cmp t w m)

@@ -1,5 +1,5 @@
 -- Settling the list of messages in flight is finishing a queue of the done ones, whose leavers join at its end.
-use Rattle.link_simulation.proofs.Common.{and_parts, arith, append_assoc, ◌≡◌, ℕ, zero, suc, ◌+◌, List, [], ◌∷◌, ◌++◌}
+use Rattle.link_simulation.proofs.Common.{arith, append_assoc, ◌≡◌, ℕ, zero, suc, ◌+◌, List, [], ◌∷◌, ◌++◌}
 use Rattle.link_simulation.proofs.Common.{map, Bool, true, false, cond, not, Option, Some, None, refl, sym, ap, ◌∙◌}
 use Rattle.link_simulation.proofs.Common.{subst, nat_le, ◌&&◌, filter, find, list_any, Ordering, is_eq, IsTotalOrder}
 use Rattle.link_simulation.proofs.Common.{list_any-append, filter-append, or_from, or_parts, map-append, without_first}
@@ -67,10 +67,7 @@ module _ {P : Type 0} (cmp : P → P → Ordering) (order : IsTotalOrder cmp) wh
   both_alike a b c d e f = rw (e, f) refl
 
   pub pair_like : (m n k : Message P) → same_pair cmp m n ≡ true → same_pair cmp n k ≡ same_pair cmp m k
-  pair_like m n k e =
-      let parts = and_parts _ _ e in
-      both_alike _ _ _ _ (peer_like m.origin n.origin k.origin parts.0) (peer_like m.recipient n.recipient k.recipient
-      parts.1)
+  pair_like m n k e = grind (arith, both_alike, peer_like)
 
   pub pair_sym : (m n : Message P) → same_pair cmp m n ≡ same_pair cmp n m
   pair_sym m n = grind arith
@@ -140,8 +137,7 @@ module _ {P : Type 0} (cmp : P → P → Ordering) (order : IsTotalOrder cmp) wh
       ≡ cond b (finish_within cmp n t (fs ++ flight_of m ∷ []) (out_of_waiting cmp v m))
       (finish_within cmp n t fs (joined cmp v m))
   done_or_not true n t fs v m = grind (arith, append-nil)
-  done_or_not false n t fs v m =
-      ap (λ (rest : List (Flight P)). finish_within cmp n t rest (joined cmp v m)) (append-nil fs)
+  done_or_not false n t fs v m = grind (arith, joined, append-nil)
 
   -- a message starts in the one world and in the other
   module _ (n t : ℕ)
@@ -167,8 +163,7 @@ module _ {P : Type 0} (cmp : P → P → Ordering) (order : IsTotalOrder cmp) wh
         → over_state (staying cmp) (and_then (start_next cmp t w o) (settle_within cmp n t))
         ≡ launch_then cmp (finish_within cmp n t) t fs v o
     unfolding launch_then staying
-    next_alike w fs v m None one idle e f is =
-        nothing_first (settle_within cmp n t) w ∙ ih w one ∙ finish_alike n t (leaving cmp w) fs (staying cmp w) v e f
+    next_alike w fs v m None one idle e f is = grind (arith, nothing_first, finish_alike, staying)
     next_alike w fs v m (Some x) one idle e f is =
         let same : same_pair cmp m x ≡ true = find_passes (same_pair cmp m) x w.waiting is in
         let idle_in_w = any_like m x (messages w.sending) same ∙ idle in

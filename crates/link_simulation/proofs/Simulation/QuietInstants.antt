@@ -7,7 +7,7 @@ use Rattle.link_simulation.proofs.Common.{EndsWith, IsQuiet, World, and_then, fi
 use Rattle.link_simulation.proofs.Common.{is_in_order, later_of, least_pair, raised, ready, settle, settle_within}
 use Rattle.link_simulation.proofs.Common.{start_next, turn, wake, wake_within, Call, Runs, act, call_advance}
 use Rattle.link_simulation.proofs.Common.{call_enqueue, call_limit, call_enqueue_all, call_next, complete_at_once}
-use Rattle.link_simulation.proofs.Common.{moment_of, limited_by, rebalance, call_limit_link, linked_by, enqueue}
+use Rattle.link_simulation.proofs.Common.{moment_of, limited_by, rebalance, call_limit_link, enqueue}
 use Rattle.link_simulation.proofs.Common.{Message, same_pair, Caps, no_time, Drains, NextIs, Passes, Ticks, comes_next}
 use Rattle.link_simulation.proofs.Common.{never_comes, no_tick, one_tick, quiet_tick, tick_faults, find_from_any}
 use Rattle.std.proofs.lemmas.List.{append-nil}
@@ -97,8 +97,7 @@ module _ {P : Type 0} (cmp : P → P → Ordering) (order : IsTotalOrder cmp) wh
 
   -- a world that its instant leaves as it is is quiet
   pub quiet_if_unchanged : (w : World P) → instant cmp w ≡ goes [] w → IsQuietNow w
-  quiet_if_unchanged w e =
-      subst (λ (c : Course (Completed P) (World P)). EndsWith IsQuietNow c) e (instant_ends_quiet w)
+  quiet_if_unchanged w e = grind (arith, instant_ends_quiet)
 
   -- ---- ticks
 
@@ -179,15 +178,12 @@ module _ {P : Type 0} (cmp : P → P → Ordering) (order : IsTotalOrder cmp) wh
       (settle_ends_quiet now changed q.0.none_ready) (settle_stays now now changed q.1))
 
   pub one_ends_quiet : (t : ℕ) (w : World P) (m : Message P) → QuietAt t w → EndsWith (QuietAt t) (enqueue cmp t w m)
-  one_ends_quiet t w m q =
-      ends_cond (QuietAt t) w.limited _ _ (enqueue_ends_quiet t w m q.0.none_ready q.1) (at_once_ends_quiet t w m q)
+  one_ends_quiet t w m q = grind (arith, ends_cond, enqueue_ends_quiet, at_once_ends_quiet)
 
   act_ends_quiet : (now : ℕ) (call : Call P) (w : World P) → moment_of call ≡ Some now → QuietAt now w
       → EndsWith (QuietAt now) (act cmp w call)
-  act_ends_quiet now (call_limit t peer egress ingress) w e q =
-      let same : now ≡ t = cc in rebalance_ends_quiet now t w (limited_by cmp w.caps peer egress ingress) same q
-  act_ends_quiet now (call_limit_link t origin recipient cap) w e q =
-      let same : now ≡ t = cc in rebalance_ends_quiet now t w (linked_by cmp w.caps origin recipient cap) same q
+  act_ends_quiet now (call_limit t peer egress ingress) w e q = grind (arith, rebalance_ends_quiet, limited_by)
+  act_ends_quiet now (call_limit_link t origin recipient cap) w e q = grind (arith, rebalance_ends_quiet)
   act_ends_quiet now (call_enqueue t m) w e q = grind (arith, one_ends_quiet)
   act_ends_quiet now (call_enqueue_all t ms) w e q =
       grind (arith, common_steps, (each_ends cmp (QuietAt now) now (one_ends_quiet now) ms w q))
@@ -196,11 +192,7 @@ module _ {P : Type 0} (cmp : P → P → Ordering) (order : IsTotalOrder cmp) wh
 
   pub passes_end_at : {n : ℕ} {w v : World P} → Passes cmp n w v → v.moment ≡ w.moment + n
   passes_end_at {w = w} no_time = let e : w.moment ≡ w.moment + 0 = omega arith in e
-  passes_end_at (quiet_tick {n = n} {w = w} {v = v} {u = u} d q p) =
-      let before : v.moment ≡ w.moment + 1 = next_moment w v d in
-      let after : u.moment ≡ v.moment + n = passes_end_at p in
-      let e : u.moment ≡ w.moment + suc n = omega arith in
-      e
+  passes_end_at (quiet_tick {n = n} {w = w} {v = v} {u = u} d q p) = grind (arith, next_moment, (passes_end_at p))
 
   -- the next event comes later than the world's moment
   pub next_is_later : (w : World P) (next : Option ℕ) → NextIs cmp w next → IfSome next (λ t. w.moment < t)

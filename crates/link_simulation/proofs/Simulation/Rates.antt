@@ -51,8 +51,7 @@ module _ {P : Type 0} (cmp : P → P → Ordering) where
   pub all_rated : (caps : Caps P) (ms : List (Message P)) (per : ℕ) (rates : Parts) → AreFair cmp caps ms per rates
       → ((i : ℕ) (m : Message P) → slice_get ms i ≡ Some m → is_unlimited cmp caps m ≡ false) → (i : ℕ)
       → slice_get rates i ≡ Some None → ⊥
-  all_rated caps ms per rates fair limited i is =
-      rates_limited caps fair.parts 0 ms limited i (subst (λ (rs : Parts). slice_get rs i ≡ Some None) fair.rated is)
+  all_rated caps ms per rates fair limited i is = grind (arith, rates_limited)
 
   -- rates of one list agree where those of the limited messages do
   match_from : (caps : Caps P) (a b : ℕ → ℕ) (d e place : ℕ) (ms : List (Message P))

@@ -1,11 +1,10 @@
 -- The number of messages is steps enough: settling ends with nothing done.
-use Rattle.link_simulation.proofs.Common.{◌∙◌, nat_le, last_moment, flight_of, ◌≡◌, ℕ, zero, suc, ◌+◌, ◌≤◌, List, []}
-use Rattle.link_simulation.proofs.Common.{◌∷◌, length, Bool, true, false, cond, Option, Some, None, refl, sym, subst}
-use Rattle.link_simulation.proofs.Common.{arith, length-append, find, Ordering, IsTotalOrder, without_first, Completed}
-use Rattle.link_simulation.proofs.Common.{Course, Flight, World, and_then, complete, goes, is_done, meets, preceded}
-use Rattle.link_simulation.proofs.Common.{settle, settle_within, start_next, EndsWith, out_of_flight, is_late}
-use Rattle.link_simulation.proofs.Common.{completed, Message, same_pair, enqueue, enqueue_each, MomentTooLate}
-use Rattle.link_simulation.proofs.Common.{least_pair, ready, turn, wake_within, Error}
+use Rattle.link_simulation.proofs.Common.{◌≡◌, ℕ, zero, suc, ◌+◌, ◌≤◌, List, [], ◌∷◌, length, Bool, true, false, cond}
+use Rattle.link_simulation.proofs.Common.{Option, Some, None, refl, sym, subst, arith, length-append, find, Ordering}
+use Rattle.link_simulation.proofs.Common.{IsTotalOrder, without_first, Completed, Course, Flight, World, and_then}
+use Rattle.link_simulation.proofs.Common.{complete, goes, is_done, meets, preceded, settle, settle_within, start_next}
+use Rattle.link_simulation.proofs.Common.{EndsWith, out_of_flight, is_late, completed, Message, same_pair, enqueue}
+use Rattle.link_simulation.proofs.Common.{enqueue_each, MomentTooLate, least_pair, ready, turn, wake_within, Error}
 use Rattle.link_simulation.proofs.Simulation.Queue.{pair_like, settle_none, settle_first, find_passes, by_option}
 use Rattle.link_simulation.proofs.Simulation.Queue.{by_option}
 
@@ -57,10 +56,7 @@ module _ {P : Type 0} (cmp : P → P → Ordering) (order : IsTotalOrder cmp) wh
       → HasAtMost n w → EndsWith (HasAtMost n) (start_next cmp t w o)
   next_has t n w m None e h = h
   next_has t n w m (Some x) e h =
-      let same : same_pair cmp m x ≡ true = find_passes _ x w.waiting e in
-      let fewer = length_without _ x w.waiting (find_like m x w.waiting same ∙ e) in
-      let joined = length-append w.sending (flight_of x ∷ []) in
-      ends_cond (HasAtMost n) _ _ (goes [] w) (ends_cond _ (nat_le last_moment w.next_id) _ _ tt (omega arith)) h
+      grind (arith, same_pair, find_passes, length_without, find_like, length-append, ends_cond)
 
   pub complete_has : (t n : ℕ) (w : World P) (f : Flight P) → find (is_done cmp w) w.sending ≡ Some f
       → HasAtMost (suc n) w → EndsWith (HasAtMost n) (complete cmp t w f.message)
@@ -91,9 +87,7 @@ module _ {P : Type 0} (cmp : P → P → Ordering) (order : IsTotalOrder cmp) wh
       → EndsWith Q (complete cmp t w f.message)) → (n : ℕ) (w : World P) → Q w → EndsWith Q (settle_within cmp n t w)
   settle_keeps Q t step zero w h = h
   settle_keeps Q t step (suc n) w h =
-      by_option (find (is_done cmp w) w.sending) (λ e. subst (EndsWith Q) (sym (settle_none cmp order n t w e)) h) (λ f e.
-      subst (EndsWith Q) (sym (settle_first cmp order n t w f e)) (ends_and_then Q Q (complete cmp t w f.message)
-      (settle_within cmp n t) (step w f e h) (settle_keeps Q t step n)))
+      grind (arith, by_option, settle_none, settle_first, ends_and_then, (settle_keeps Q t step n))
 
   -- and what each turn keeps, waking
   pub wake_keeps : (Q : World P → Type 0) (t : ℕ)

@@ -1,5 +1,5 @@
 -- The users of the capped sides of messages are places of messages, each once on a side.
-use Rattle.link_simulation.proofs.Common.{◌≡◌, ℕ, ◌<◌, ◌≤◌, List, length, true, Some, All, sym, subst, Ordering}
+use Rattle.link_simulation.proofs.Common.{arith, ◌≡◌, ℕ, ◌<◌, ◌≤◌, List, length, true, Some, All, Ordering}
 use Rattle.link_simulation.proofs.Common.{IsTotalOrder, Side, same_peer, Message, Caps, capped_sides, In}
 use Rattle.link_simulation.proofs.Common.{All-from_contains}
 use Rattle.std.specs.Prelude.{◌≢◌}
@@ -18,8 +18,7 @@ module _ {P : Type 0} (cmp : P → P → Ordering) (order : IsTotalOrder cmp)
       by_side : (s : Side) → (m : Message P) × In ms m
           × ((k : Kind) × (cap : ℕ) × (cap_at cmp caps k m ≡ Some cap) × (s ≡ side_at cmp caps k ms m cap))
           → All (λ user. user < n) s.users
-      by_side s (m, has, (k, cap, is, e)) =
-          subst (λ (z : Side). All (λ user. user < n) z.users) (sym e) (places_below _ ms n few)
+      by_side s (m, has, (k, cap, is, e)) = grind (arith, places_below)
 
   pub users_distinct : (caps : Caps P) (ms : List (Message P)) → HaveDistinctUsers (capped_sides cmp caps ms)
   users_distinct caps ms = All-from_contains _ _ (λ s has. by_side s (from_sides cmp caps ms s has))
@@ -27,5 +26,4 @@ module _ {P : Type 0} (cmp : P → P → Ordering) (order : IsTotalOrder cmp)
       by_side : (s : Side) → (m : Message P) × In ms m
           × ((k : Kind) × (cap : ℕ) × (cap_at cmp caps k m ≡ Some cap) × (s ≡ side_at cmp caps k ms m cap))
           → AllPairs (λ user other. user ≢ other) s.users
-      by_side s (m, has, (k, cap, is, e)) =
-          subst (λ (z : Side). AllPairs (λ user other. user ≢ other) z.users) (sym e) (places_apart 0 _ ms)
+      by_side s (m, has, (k, cap, is, e)) = grind (arith, places_apart)

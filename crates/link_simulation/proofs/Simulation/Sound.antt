@@ -1,16 +1,15 @@
 -- Each call leads from a sound world to a sound world, and to one alone.
-use Rattle.link_simulation.proofs.Common.{◌≡◌, ℕ, ◌+◌, List, [], ◌∷◌, ◌++◌, Bool, true, false, cond, Option}
-use Rattle.link_simulation.proofs.Common.{Some, None, refl, sym, ◌∙◌, subst, arith, ⊤, ◌&&◌, nat_lt, if◌then◌else◌}
-use Rattle.link_simulation.proofs.Common.{Ordering, IsTotalOrder, map-append, not-true, without_first, same_peer}
-use Rattle.link_simulation.proofs.Common.{Completed, Course, EndsWith, Flight, IsQuiet, World, and_then, complete}
-use Rattle.link_simulation.proofs.Common.{first_waiting, flows, fronts, goes, instant, is_done, is_idle, last_moment}
-use Rattle.link_simulation.proofs.Common.{later_of, least_pair, may_start, meets, new_world, raised, ready, settle}
-use Rattle.link_simulation.proofs.Common.{start, start_next, turn, wake, out_of_flight, completed, Call, Runs, act}
-use Rattle.link_simulation.proofs.Common.{call_advance, call_enqueue, call_limit, call_enqueue_all, call_next}
-use Rattle.link_simulation.proofs.Common.{complete_at_once, enqueue, rebalance, limited_by, call_limit_link}
-use Rattle.link_simulation.proofs.Common.{Caps, Message, OneForEachPair, CapsAlike, PairsAlike, ArePositive}
-use Rattle.link_simulation.proofs.Common.{Drains, IsSound, Ticks, no_tick, one_tick, tick_faults, MomentTooLate}
-use Rattle.link_simulation.proofs.Common.{peer_sym, each_filtered, by_bool}
+use Rattle.link_simulation.proofs.Common.{◌≡◌, ℕ, ◌+◌, List, [], ◌∷◌, ◌++◌, Bool, true, false, cond, Option, Some, None}
+use Rattle.link_simulation.proofs.Common.{refl, sym, ◌∙◌, subst, arith, ⊤, ◌&&◌, nat_lt, if◌then◌else◌, Ordering}
+use Rattle.link_simulation.proofs.Common.{IsTotalOrder, map-append, not-true, without_first, same_peer, Completed}
+use Rattle.link_simulation.proofs.Common.{Course, EndsWith, Flight, IsQuiet, World, and_then, complete, first_waiting}
+use Rattle.link_simulation.proofs.Common.{flows, fronts, instant, is_done, is_idle, last_moment, later_of, least_pair}
+use Rattle.link_simulation.proofs.Common.{may_start, meets, new_world, raised, ready, settle, start, start_next, turn}
+use Rattle.link_simulation.proofs.Common.{wake, out_of_flight, completed, Call, Runs, act, call_advance, call_enqueue}
+use Rattle.link_simulation.proofs.Common.{call_limit, call_enqueue_all, call_next, complete_at_once, enqueue, rebalance}
+use Rattle.link_simulation.proofs.Common.{limited_by, call_limit_link, Caps, Message, OneForEachPair, CapsAlike}
+use Rattle.link_simulation.proofs.Common.{PairsAlike, ArePositive, Drains, IsSound, Ticks, no_tick, one_tick}
+use Rattle.link_simulation.proofs.Common.{tick_faults, MomentTooLate, peer_sym, each_filtered, by_bool}
 use Rattle.link_simulation.specs.Simulation.Messages.{with_cap, with_link}
 use Rattle.link_simulation.proofs.Simulation.Queue.{peer_like, one_without, one_pair_more}
 use Rattle.link_simulation.proofs.Simulation.SettlingEnds.{ends_preceded, ends_and_then, ends_cond, each_ends}
@@ -187,12 +186,7 @@ module _ {P : Type 0} (cmp : P → P → Ordering) (order : IsTotalOrder cmp) wh
       → ((p q r s : P) → same_peer cmp p q ≡ true → same_peer cmp r s ≡ true → last p r ≡ last q s)
       → (p q r s : P) → same_peer cmp p q ≡ true → same_peer cmp r s ≡ true
       → raised cmp last m at p r ≡ raised cmp last m at q s
-  raised_peerwise last m at h p q r s e f =
-      by_tests _ _ _ _ (last p r) (last q s) (peer_alike m.origin p q e) (peer_alike m.recipient r s f) (h p q r s e f)
-    where
-      by_tests : (a b c d : Bool) (x y : Option ℕ) → a ≡ b → c ≡ d → x ≡ y
-          → cond (a && c) (Some (later_of x at)) x ≡ cond (b && d) (Some (later_of y at)) y
-      by_tests a b c d x y e f g = rw (e, f, g) refl
+  raised_peerwise last m at h p q r s e f = grind (arith, peer_alike)
 
   landed_peerwise : (w : World P) (fs : List (Flight P)) (m : Message P) (at : ℕ) → IsPeerwise w
       → IsPeerwise (record w { sending = fs; last_arrival = raised cmp w.last_arrival m at })
@@ -205,8 +199,7 @@ module _ {P : Type 0} (cmp : P → P → Ordering) (order : IsTotalOrder cmp) wh
   next_peerwise : (t : ℕ) (w : World P) (o : Option (Message P)) → IsPeerwise w
       → EndsWith (IsPeerwise) (start_next cmp t w o)
   next_peerwise t w None h = h
-  next_peerwise t w (Some m) h =
-      ends_cond (IsPeerwise) (may_start cmp t w m) (start cmp w m) (goes [] w) (start_peerwise w m h) h
+  next_peerwise t w (Some m) h = grind (arith, ends_cond, start, start_peerwise)
 
   complete_peerwise : (t : ℕ) (w : World P) (m : Message P) → IsPeerwise w → EndsWith (IsPeerwise) (complete cmp t w m)
   complete_peerwise t w m h = search (ends_cond, ends_preceded, next_peerwise, landed_peerwise)
@@ -229,22 +222,17 @@ module _ {P : Type 0} (cmp : P → P → Ordering) (order : IsTotalOrder cmp) wh
       → EndsWith (IsPeerwise) c
   ticks_peerwise no_tick h = h
   ticks_peerwise (one_tick {w = w} {v = v} {u = u} {cs = cs} {rest = rest} d i t) h =
-      ends_preceded (IsPeerwise) cs rest (ticks_peerwise t
-      (ends_at cmp order (IsPeerwise) (instant cmp v) cs u i (instant_peerwise v (drains_peerwise w v d h))))
+      grind (arith, ends_preceded, ends_at, instant_peerwise, drains_peerwise, (ticks_peerwise t))
   ticks_peerwise (tick_faults d i) h = tt
 
   cap_peerwise : (caps : P → Option ℕ) (peer : P) (cap : Option ℕ)
       → ((p q : P) → same_peer cmp p q ≡ true → caps p ≡ caps q) → (p q : P) → same_peer cmp p q ≡ true
       → with_cap cmp caps peer cap p ≡ with_cap cmp caps peer cap q
-  cap_peerwise caps peer cap h p q e = by_tests _ _ (caps p) (caps q) (peer_alike peer p q e) (h p q e)
-    where
-      by_tests : (a b : Bool) (x y : Option ℕ) → a ≡ b → x ≡ y → cond a cap x ≡ cond b cap y
-      by_tests a b x y e f = rw (e, f) refl
+  cap_peerwise caps peer cap h p q e = grind (arith, peer_alike)
 
   link_peerwise : (links : P → P → Option ℕ) (origin recipient : P) (cap : Option ℕ) → PairsAlike cmp links links
       → PairsAlike cmp (with_link cmp links origin recipient cap) (with_link cmp links origin recipient cap)
-  link_peerwise links origin recipient cap h p q r s e f =
-      rw (peer_alike origin p q e, peer_alike recipient r s f, h p q r s e f) refl
+  link_peerwise links origin recipient cap h p q r s e f = grind (arith, peer_alike)
 
   rebalance_peerwise : (t : ℕ) (w : World P) (caps : Caps P) → CapsAlike cmp caps caps → IsPeerwise w
       → EndsWith IsPeerwise (rebalance cmp t w caps)
