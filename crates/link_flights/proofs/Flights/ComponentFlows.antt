@@ -6,7 +6,9 @@ use Rattle.link_flights.proofs.Common.{Recipient, Component, Flight, keeps, is_o
 use Rattle.link_flights.proofs.Common.{has_end, joins}
 use Rattle.link_flights.proofs.Common.{touches, suits, is_closed, UnitFlight, flight_at, flights_at, take_more, near_of}
 use Rattle.link_pairs.specs.declared.message.Message.{Message}
-use Rattle.link_flights.proofs.Flights.InFlight.{filter_yes}
+use Rattle.std.proofs.Math.Bool.{and-false, or-true}
+use Rattle.link_flights.proofs.Common.{all_passed}
+use Rattle.link_flights.proofs.Flights.Places.{all_pass_filter}
 
 module _ {P : Type 0} (cmp : P → P → Ordering) (now : ℕ) (list : List (Flight P)) (at : ℕ)
     (one : Flight P) (inside : at < length list) (is : one ≡ get_or list at one) where
@@ -17,10 +19,6 @@ module _ {P : Type 0} (cmp : P → P → Ordering) (now : ℕ) (list : List (Fli
       ap (flights_at now) (take_more list at one inside ∙ ap (λ x. take at list ++ x ∷ []) (sym is))
       ∙ map-append (λ (f : Flight P). flight_at now f) (take at list) (one ∷ [])
 
-none_and : (b : Bool) → (b && false) ≡ false
-none_and true = refl
-none_and false = refl
-
 -- all are of a component of all senders and receivers, with no level
 module _ {P : Type 0} (cmp : P → P → Ordering) (component : Component P) (whole : component.whole ≡ true)
     (level : component.level ≡ 0) where
@@ -30,20 +28,10 @@ module _ {P : Type 0} (cmp : P → P → Ordering) (component : Component P) (wh
       (λ b. (b || list_any (λ j. joins cmp j Origin u.message.origin u.message.recipient) component.joined.items)
       && not (keeps component u)) whole
       ∙ ap (λ n. not (u.rated && not (nat_le n u.rate))) level
-      ∙ ap (λ b. not (u.rated && not b)) (le-leb 0 u.rate (omega arith)) ∙ ap not (none_and u.rated)
+      ∙ ap (λ b. not (u.rated && not b)) (le-leb 0 u.rate (omega arith)) ∙ ap not (and-false u.rated)
 
   pub all_of_whole : (us : List (UnitFlight P)) → those_of cmp component us ≡ us
-  all_of_whole [] = refl
-  all_of_whole (u ∷ us) =
-      filter_yes (is_of cmp component) u us (is_of_whole u) ∙ ap (λ l. u ∷ l) (all_of_whole us)
-
-or_true : (b : Bool) → (b || true) ≡ true
-or_true true = refl
-or_true false = refl
-
-all_pass : {X : Type 0} (test : X → Bool) → ((x : X) → test x ≡ true) → (xs : List X) → list_all test xs ≡ true
-all_pass test passes [] = refl
-all_pass test passes (x ∷ xs) = ap₂ (λ a b. a && b) (passes x) (all_pass test passes xs)
+  all_of_whole = all_pass_filter (is_of cmp component) is_of_whole
 
 -- a component of all senders and receivers, whatever its level
 module _ {P : Type 0} (cmp : P → P → Ordering) (component : Component P) (whole : component.whole ≡ true) where
@@ -60,17 +48,15 @@ module _ {P : Type 0} (cmp : P → P → Ordering) (component : Component P) (wh
   touched m = ap (λ b. b || is_receiver cmp component m.origin m.recipient) (has Origin m.origin m.recipient)
 
   pub near_whole : (us : List (UnitFlight P)) → near_of cmp component us ≡ us
-  near_whole [] = refl
-  near_whole (u ∷ us) =
-      filter_yes (λ v. touches cmp component v.message) u us (touched u.message) ∙ ap (λ l. u ∷ l) (near_whole us)
+  near_whole = all_pass_filter (λ v. touches cmp component v.message) (λ v. touched v.message)
 
   suited : (u : UnitFlight P) → suits cmp component u ≡ true
   suited u =
       ap (λ b. keeps component u || (if b then has_both cmp component u.message else u.rated)) (touched u.message)
-      ∙ ap (λ b. keeps component u || b) (both u.message) ∙ or_true (keeps component u)
+      ∙ ap (λ b. keeps component u || b) (both u.message) ∙ or-true (keeps component u)
 
   pub closed_whole : (done : List (Arc (Message P) Global)) (us : List (UnitFlight P))
       → is_closed cmp component done us ≡ true
   closed_whole done us =
-      ap₂ (λ a b. a && b) (all_pass (λ m. has_both cmp component m.value) (λ m. both m.value) done)
-      (all_pass (suits cmp component) suited us)
+      ap₂ (λ a b. a && b) (all_passed (λ m. has_both cmp component m.value) done (λ m among. both m.value))
+      (all_passed (suits cmp component) us (λ u among. suited u))

@@ -18,6 +18,7 @@ use Rattle.fairness.specs.Fairness.Fair.{HasBottleneck}
 use Rattle.fairness.proofs.Fairness.Sharing.{StandsAt, fair_from}
 use Rattle.link_pairs.specs.declared.message.Message as code
 use Rattle.link_flights.proofs.Flights.FairMessages.{StandsForMessage, same_sides}
+use Rattle.link_flights.proofs.Flights.ComponentFlows.{is_of_whole}
 use Rattle.link_flights.proofs.Flights.InFlight.{filter_yes, filter_no}
 
 -- ---- parts that are the same
@@ -374,28 +375,19 @@ module _ {P : Type 0} (cmp : P → P → Ordering) (component : Component P) whe
   -- ---- all of them
 
   module _ (whole : component.whole ≡ true) (level : component.level ≡ 0) where
-    pub all_of : (u : UnitFlight P) → is_of cmp component u ≡ true
-    all_of u =
-        ap₂ (λ w l.
-        (w || list_any (λ j. joins cmp j Origin u.message.origin u.message.recipient) component.joined.items)
-        && not (u.rated && not (nat_le l u.rate))) whole level
-        ∙ none u.rated
-      where
-        none : (r : Bool) → (true && not (r && not (nat_le 0 u.rate))) ≡ true
-        none true = ap (λ b. true && not (true && not b)) (le-leb 0 u.rate (omega arith))
-        none false = refl
-
-    pub those_all : (us : List (UnitFlight P)) → those_of cmp component us ≡ us
-    those_all [] = refl
-    those_all (u ∷ us) = filter_yes (is_of cmp component) u us (all_of u) ∙ ap (λ l. u ∷ l) (those_all us)
-
     pub whole_rerated : (now times : ℕ) (rates : List ℕ) (us : List (UnitFlight P))
         → length rates ≡ length (those_of cmp component us)
         → AllZip (IsRatedFrom now times) us (rerated cmp component now times rates us)
     whole_rerated now times rates us one_each =
-        rated_each now times rates us one_each (λ u among out. absurd (false≢true (sym out ∙ all_of u)))
+        rated_each now times rates us one_each (λ u among out. absurd (false≢true (sym out ∙ is_of_whole cmp component whole level u)))
 
   -- ---- what closedness says
+
+  -- tests that answer the same for each that has joined
+  any_alike : {X : Type 0} (f g : X → Bool) (xs : List X) → ((x : X) → In xs x → f x ≡ g x)
+      → list_any f xs ≡ list_any g xs
+  any_alike f g [] all = refl
+  any_alike f g (x ∷ xs) all = ap₂ (λ a b. a || b) (all x (inl refl)) (any_alike f g xs (λ y h. all y (inr h)))
 
   -- both ends are in it or neither
   abbrev HasBothOrNone : Flow P → Type 0
@@ -410,17 +402,11 @@ module _ {P : Type 0} (cmp : P → P → Ordering) (component : Component P) whe
     -- what goes between the same peers has the same ends in it
     same_pair : (p q r s : P) → same_peer cmp p r ≡ true → same_peer cmp q s ≡ true
         → is_sender cmp component p q ≡ is_sender cmp component r s
-    same_pair p q r s e f = ap (λ b. component.whole || b) (each component.joined.items)
-      where
-        each : (js : List (Joined P))
-            → list_any (λ j. joins cmp j Origin p q) js ≡ list_any (λ j. joins cmp j Origin r s) js
-        each [] = refl
-        each (j ∷ js) =
-            let laws = eq_by_cmp_equiv order in
-            ap₂ (λ a b. a || b)
-            (ap₂ (λ a b. a && (have_end j.ends Origin || b)) (laws.congr p r j.message.value.origin e)
-            (laws.congr q s j.message.value.recipient f))
-            (each js)
+    same_pair p q r s e f =
+        let laws = eq_by_cmp_equiv order in
+        ap (λ b. component.whole || b) (any_alike (λ j. joins cmp j Origin p q) (λ j. joins cmp j Origin r s)
+        component.joined.items (λ j h. ap₂ (λ a b. a && (have_end j.ends Origin || b))
+        (laws.congr p r j.message.value.origin e) (laws.congr q s j.message.value.recipient f)))
 
     module _ (caps : Caps P) (of : AreOfPeers cmp caps) (tied : AreTied caps component) where
       tied_one : (j : Joined P) → In component.joined.items j → IsTied caps j
@@ -430,39 +416,25 @@ module _ {P : Type 0} (cmp : P → P → Ordering) (component : Component P) whe
       same_sender : (p q r s : P) (cap : ℕ) → caps.egress p ≡ Some cap → same_peer cmp p r ≡ true
           → is_sender cmp component p q ≡ is_sender cmp component r s
       same_sender p q r s cap has e =
-          ap (λ b. component.whole || b) (each component.joined.items (λ j h. tied_one j h))
-        where
-          each : (js : List (Joined P)) → ((j : Joined P) → In js j → IsTied caps j)
-              → list_any (λ j. joins cmp j Origin p q) js ≡ list_any (λ j. joins cmp j Origin r s) js
-          each [] all = refl
-          each (j ∷ js) all =
-              let o = j.message.value.origin in
-              ap₂ (λ a b. a || b)
-              (and_alike (same_peer cmp p o) (have_end j.ends Origin) (same_peer cmp q j.message.value.recipient)
-              (same_peer cmp s j.message.value.recipient)
-              (λ is. (all j (inl refl)).0 cap (sym (of.egress p o is) ∙ has))
-              ∙ ap (λ b. b && (have_end j.ends Origin || same_peer cmp s j.message.value.recipient))
-              ((eq_by_cmp_equiv order).congr p r o e))
-              (each js (λ k h. all k (inr h)))
+          ap (λ b. component.whole || b) (any_alike (λ j. joins cmp j Origin p q) (λ j. joins cmp j Origin r s)
+          component.joined.items (λ j h.
+              let m = j.message.value in
+              and_alike (same_peer cmp p m.origin) (have_end j.ends Origin) (same_peer cmp q m.recipient)
+              (same_peer cmp s m.recipient) (λ is. (tied_one j h).0 cap (sym (of.egress p m.origin is) ∙ has))
+              ∙ ap (λ b. b && (have_end j.ends Origin || same_peer cmp s m.recipient))
+              ((eq_by_cmp_equiv order).congr p r m.origin e)))
 
       -- and so for all that a peer receives
       same_receiver : (p q r s : P) (cap : ℕ) → caps.ingress q ≡ Some cap → same_peer cmp q s ≡ true
           → is_receiver cmp component p q ≡ is_receiver cmp component r s
       same_receiver p q r s cap has e =
-          ap (λ b. component.whole || b) (each component.joined.items (λ j h. tied_one j h))
-        where
-          each : (js : List (Joined P)) → ((j : Joined P) → In js j → IsTied caps j)
-              → list_any (λ j. joins cmp j Recipient p q) js ≡ list_any (λ j. joins cmp j Recipient r s) js
-          each [] all = refl
-          each (j ∷ js) all =
-              let o = j.message.value.recipient in
-              ap₂ (λ a b. a || b)
-              (and_alike (same_peer cmp q o) (have_end j.ends Recipient) (same_peer cmp p j.message.value.origin)
-              (same_peer cmp r j.message.value.origin)
-              (λ is. (all j (inl refl)).1 cap (sym (of.ingress q o is) ∙ has))
-              ∙ ap (λ b. b && (have_end j.ends Recipient || same_peer cmp r j.message.value.origin))
-              ((eq_by_cmp_equiv order).congr q s o e))
-              (each js (λ k h. all k (inr h)))
+          ap (λ b. component.whole || b) (any_alike (λ j. joins cmp j Recipient p q) (λ j. joins cmp j Recipient r s)
+          component.joined.items (λ j h.
+              let m = j.message.value in
+              and_alike (same_peer cmp q m.recipient) (have_end j.ends Recipient) (same_peer cmp p m.origin)
+              (same_peer cmp r m.origin) (λ is. (tied_one j h).1 cap (sym (of.ingress q m.recipient is) ∙ has))
+              ∙ ap (λ b. b && (have_end j.ends Recipient || same_peer cmp r m.origin))
+              ((eq_by_cmp_equiv order).congr q s m.recipient e)))
 
       -- two flows that a side limits are both of it or both not
       pub apart : (s : Subject P) (cap : ℕ) → cap_of caps s ≡ Some cap → (f g : Flow P) → HasBothOrNone f

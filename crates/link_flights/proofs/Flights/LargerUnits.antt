@@ -19,6 +19,7 @@ use Rattle.fairness.proofs.Lists.SumOrder.{sum_by-scaled}
 use Rattle.link_pairs.specs.declared.message.Message as code
 use Rattle.link_flights.specs.Flights.LargerUnits.{IsFactorOf, IsFactorOfAll, AreCountedBy}
 use Rattle.link_flights.specs.Flights.LargerUnits.{IsCommonFactor}
+use Rattle.fairness.proofs.Lists.Zips.{zip-filter}
 use Rattle.link_flights.proofs.Flights.Flight.{zip_there}
 use Rattle.link_flights.proofs.Flights.Units.{units_positive}
 
@@ -225,17 +226,7 @@ module _ {P : Type 0} (by : ℕ) where
       timed_in_larger r.0 g (all i r.0 r.1) r.2 (timed i r.0 r.1 (sym r.2.rated ∙ rated))
 
   rated_larger : (us vs : List (UnitFlight P)) → AllZip IsLarger us vs → AllZip IsLarger (rated_ones us) (rated_ones vs)
-  rated_larger [] [] z = tt
-  rated_larger [] (v ∷ vs) z = absurd z
-  rated_larger (u ∷ us) [] z = absurd z
-  rated_larger (u ∷ us) (v ∷ vs) z =
-      subst (λ c. AllZip IsLarger (rated_ones (u ∷ us)) (cond c (v ∷ rated_ones vs) (rated_ones vs))) z.0.rated
-      (by_flag u.rated (rated_larger us vs z.1))
-    where
-      by_flag : (b : Bool) → AllZip IsLarger (rated_ones us) (rated_ones vs)
-          → AllZip IsLarger (cond b (u ∷ rated_ones us) (rated_ones us)) (cond b (v ∷ rated_ones vs) (rated_ones vs))
-      by_flag true rest = (z.0, rest)
-      by_flag false rest = rest
+  rated_larger = zip-filter IsLarger (λ u. u.rated) (λ v. v.rated) (λ u v larger. larger.rated)
 
   same_messages : (us vs : List (UnitFlight P)) → AllZip IsLarger us vs → sent_messages us ≡ sent_messages vs
   same_messages [] [] z = refl

@@ -22,12 +22,8 @@ module _ {P : Type 0} (cmp : P → P → Ordering) where
   pub next_has_end : (end : End) (p : P) (list : List (Flight P)) (from : ℕ) (next : Option ℕ)
       → IsNextPlace (λ one. share cmp end (letter p) one.message.value) list from next
       → IsNextPlace (λ one. is_at_end cmp end p one.message.value) list from next
-  next_has_end Origin p list from None is = is
-  next_has_end Origin p list from (Some at) is =
-      record { low = is.low; high = is.high; before = is.before; here = is.here }
-  next_has_end Recipient p list from None is = is
-  next_has_end Recipient p list from (Some at) is =
-      record { low = is.low; high = is.high; before = is.before; here = is.here }
+  next_has_end Origin p list from next is = is
+  next_has_end Recipient p list from next is = is
 
   end_alike : IsTotalOrder cmp → (end : End) (p : P) (n other : code.Message P) → is_at_end cmp end p n ≡ true
       → is_at_end cmp end p other ≡ share cmp end n other
@@ -39,15 +35,9 @@ module _ {P : Type 0} (cmp : P → P → Ordering) where
       (next : Option ℕ) (n : code.Message P) → is_at_end cmp end p n ≡ true
       → IsNextPlace (λ other. share cmp end n other.message.value) list from next
       → IsNextPlace (λ other. is_at_end cmp end p other.message.value) list from next
-  next_of_end order end p list from None n same is =
-      λ i low high d. end_alike order end p n (get_or list i d).message.value same ∙ is i low high d
-  next_of_end order end p list from (Some at) n same is = record {
-    low = is.low;
-    high = is.high;
-    before = λ i low high d.
-        end_alike order end p n (get_or list i d).message.value same ∙ is.before i low high d;
-    here = λ d. end_alike order end p n (get_or list at d).message.value same ∙ is.here d;
-  }
+  next_of_end order end p list from next n same =
+      subst (λ test. IsNextPlace test list from next)
+      (λ i (other : Flight P). sym (end_alike order end p n other.message.value same) i)
 
 -- the number of such a message's peer
 pub number_of_letter : {P : Type 0} (cmp : P → P → Ordering) (total : IsTotalOrder cmp) (peers : List P) (end : End) (p : P)

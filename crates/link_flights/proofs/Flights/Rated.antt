@@ -10,6 +10,7 @@ use Rattle.std.proofs.Math.Logic.{∥∥₁_elim}
 use Rattle.std.proofs.Props.{props}
 use Rattle.link_simulation.specs.Rule.Planned.{left_at}
 use Rattle.link_flights.specs.Flights.Rated.{AreRated, IsAsRated}
+use Rattle.fairness.proofs.Lists.Zips.{zip-filter}
 use Rattle.link_flights.proofs.Flights.InFlight.{read_filter}
 use Rattle.link_flights.proofs.Flights.Units.{drained_units}
 
@@ -25,17 +26,7 @@ module _ {P : Type 0} where
 
   rated_alike : (us vs : List (UnitFlight P)) → AllZip IsAsRated us vs
       → AllZip IsAsRated (rated_ones us) (rated_ones vs)
-  rated_alike [] [] z = tt
-  rated_alike [] (v ∷ vs) z = absurd z
-  rated_alike (u ∷ us) [] z = absurd z
-  rated_alike (u ∷ us) (v ∷ vs) z =
-      subst (λ b. AllZip IsAsRated (rated_ones (u ∷ us)) (cond b (v ∷ rated_ones vs) (rated_ones vs))) (sym z.0.rated)
-      (by_test u.rated (rated_alike us vs z.1))
-    where
-      by_test : (b : Bool) → AllZip IsAsRated (rated_ones us) (rated_ones vs)
-          → AllZip IsAsRated (cond b (u ∷ rated_ones us) (rated_ones us)) (cond b (v ∷ rated_ones vs) (rated_ones vs))
-      by_test true ih = (z.0, ih)
-      by_test false ih = ih
+  rated_alike = zip-filter IsAsRated (λ u. u.rated) (λ v. v.rated) (λ u v as. sym as.rated)
 
   messages_alike : (us vs : List (UnitFlight P)) → AllZip IsAsRated us vs → sent_messages vs ≡ sent_messages us
   messages_alike [] [] z = refl

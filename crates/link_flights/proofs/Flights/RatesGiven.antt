@@ -19,8 +19,9 @@ use Rattle.link_pairs.specs.declared.message.Message as code
 use Rattle.link_flights.specs.Flights.Rated.{AreFairOn}
 use Rattle.link_flights.proofs.Flights.AllSides.{of_left}
 use Rattle.link_flights.proofs.Flights.Components.{flow_of, parts_of, flow_for, shares, flows_are, stand_from, fair}
-use Rattle.link_flights.proofs.Flights.Components.{found_each, all_of, those_all, whole_rerated}
+use Rattle.link_flights.proofs.Flights.Components.{found_each, whole_rerated}
 use Rattle.link_flights.proofs.Flights.Components.{component_rerated}
+use Rattle.link_flights.proofs.Flights.ComponentFlows.{is_of_whole, all_of_whole}
 use Rattle.link_flights.proofs.Flights.InFlight.{filter_no}
 use Rattle.link_flights.proofs.Flights.Restarting.{restart_fair, flows_again, rates_again}
 
@@ -32,7 +33,7 @@ module _ {P : Type 0} (cmp : P → P → Ordering) (caps : Caps P) (component : 
   none_kept : (us : List (UnitFlight P)) → filter (λ u. not (is_of cmp component u)) us ≡ []
   none_kept [] = refl
   none_kept (u ∷ us) =
-      filter_no (λ v. not (is_of cmp component v)) u us (ap not (all_of cmp component whole level u)) ∙ none_kept us
+      filter_no (λ v. not (is_of cmp component v)) u us (ap not (is_of_whole cmp component whole level u)) ∙ none_kept us
 
   nothing_taken : (us : List (UnitFlight P)) (s : Subject P) → kept_load cmp component us s ≡ 0
   nothing_taken us s = ap (sum_by (λ u. cond (limits cmp s (flow_in_flight cmp u)) u.rate 0)) (none_kept us)
@@ -71,12 +72,12 @@ module _ {P : Type 0} (cmp : P → P → Ordering) (caps : Caps P) (component : 
 
     flows : map (flow_for cmp) news ≡ flows_of cmp component us
     flows =
-        ap (map (flow_for cmp)) (sym (those_all cmp component whole level news))
+        ap (map (flow_for cmp)) (sym (all_of_whole cmp component whole level news))
         ∙ flows_again cmp component now times rates us one_each reach
 
     given : rates_of news ≡ rates
     given =
-        ap rates_of (sym (those_all cmp component whole level news))
+        ap rates_of (sym (all_of_whole cmp component whole level news))
         ∙ rates_again cmp component now times rates us one_each reach
 
     pub whole_fair : AreFairlyRated cmp caps (scale * found.scale) news

@@ -14,6 +14,7 @@ use Rattle.std.proofs.lemmas.List.Elements.{All-head, All-tail, All-drop}
 use Rattle.std.proofs.lemmas.List.Folds.{list_any_none}
 use Rattle.peer_numbers.specs.Peers.{IsWithPeer}
 use Rattle.std.specs.Prelude.{not}
+use Rattle.std.proofs.Math.Bool.{and-false}
 use Rattle.std.proofs.lemmas.Option.{same_Some}
 use Rattle.std.proofs.lemmas.Cmp.{eq_by_cmp_equiv}
 use Rattle.peer_numbers.proofs.Peers.{same_number, other_peer}
@@ -30,10 +31,6 @@ use Rattle.link_flights.specs.Flights.Rows.{line_of}
 not_true : (b : Bool) → (b ≡ true → ⊥) → b ≡ false
 not_true true h = absurd (h refl)
 not_true false h = refl
-
-and_false : (b : Bool) → (b && false) ≡ false
-and_false true = refl
-and_false false = refl
 
 module _ {T : Type 0} where
   -- a row and its item stand at that place
@@ -219,7 +216,7 @@ module _ {P : Type 0} (cmp : P → P → Ordering) (total : IsTotalOrder cmp) wh
       All-weaker (IsRow cmp peers) _
       (λ row r. ap (λ b. same_peer cmp origin row.item.message.value.origin && b)
       (other_peer cmp total peers recipient _ row.receiver is r.receiver)
-      ∙ and_false (same_peer cmp origin row.item.message.value.origin))
+      ∙ and-false (same_peer cmp origin row.item.message.value.origin))
       rows all
 
 -- ---- what is kept and what is seen

@@ -193,15 +193,9 @@ module _ {P : Type 0} (cmp : P → P → Ordering) where
       (next : Option ℕ) (n : Message P) → share cmp end m n ≡ true
       → IsNextPlace (λ other. share cmp end n other.message.value) list from next
       → IsNextPlace (λ other. share cmp end m other.message.value) list from next
-  next_shared order end m list from None n same is =
-      λ i low high d. share_alike order end m n (get_or list i d).message.value same ∙ is i low high d
-  next_shared order end m list from (Some at) n same is = record {
-    low = is.low;
-    high = is.high;
-    before = λ i low high d.
-        share_alike order end m n (get_or list i d).message.value same ∙ is.before i low high d;
-    here = λ d. share_alike order end m n (get_or list at d).message.value same ∙ is.here d;
-  }
+  next_shared order end m list from next n same =
+      subst (λ test. IsNextPlace test list from next)
+      (λ i (other : Flight P). sym (share_alike order end m n other.message.value same) i)
 
   module _ (end : End) (m : Message P) (list : List (Flight P)) (next : Option ℕ)
       (before near : List ℕ) (walked : HasWalked end m list next before near) where
@@ -238,12 +232,10 @@ module _ {P : Type 0} (cmp : P → P → Ordering) where
         → ((d : Flight P) → IsNextPlace
         (λ other. share cmp end (get_or list at d).message.value other.message.value) list (at + 1) following)
         → behind list following < behind list next
-    fewer_behind at is None further =
-        let there = first_there at is in omega (arith, there.high, ap (behind list) is)
-    fewer_behind at is (Some to) further =
-        let there = first_there at is in
-        let after = further (one_there list at there.high).0 in
-        omega (arith, there.high, ap (behind list) is, after.low, after.high)
+    fewer_behind at is following further =
+        let d = (one_there list at (first_there at is).high).0 in
+        fewer_ahead (λ (other : Flight P). share cmp end (get_or list at d).message.value other.message.value) list at
+        next following is (first_there at is).high (further d)
 
     pub next_inside : (at : ℕ) → next ≡ Some at → at < length list
     next_inside at is = (first_there at is).high

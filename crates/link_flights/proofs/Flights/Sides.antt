@@ -14,12 +14,13 @@ use Rattle.link_flights.proofs.Common.{IsNextPlace, flow_sent, flow_in_flight, u
 use Rattle.link_flights.proofs.Common.{flows_of, share, AllPairs, take_more, filter-append, IsCounted}
 use Rattle.std.proofs.Common.{unwrap_or}
 use Rattle.std.proofs.lemmas.Bool.{cases_eq}
+use Rattle.std.proofs.Math.Bool.{and-false}
 use Rattle.std.proofs.lemmas.List.Sums.{sum_by-append}
 use Rattle.link_pairs.specs.declared.message.Message.{Message}
 use Rattle.link_flights.proofs.Flights.ComponentFlows.{one_more}
 use Rattle.link_flights.proofs.Flights.InFlight.{filter_yes, filter_no, read_filter}
 use Rattle.link_flights.proofs.Flights.Places.{one_there, places_yes, places_no, places_length, fewer_places}
-use Rattle.link_flights.proofs.Flights.Search.{behind, next_shared}
+use Rattle.link_flights.proofs.Flights.Search.{behind, fewer_ahead, next_shared}
 
 -- ---- lists
 
@@ -410,11 +411,7 @@ module _ {P : Type 0} (cmp : P → P → Ordering) where
     off i d none =
         limits_at end m (get_or list i d).message.value
         ∙ ap (λ b. uses_end cmp end (get_or list i d).message.value && b) none
-        ∙ none_and (uses_end cmp end (get_or list i d).message.value)
-      where
-        none_and : (b : Bool) → (b && false) ≡ false
-        none_and true = refl
-        none_and false = refl
+        ∙ and-false (uses_end cmp end (get_or list i d).message.value)
 
     pub counting_starts : (next : Option ℕ)
         → IsNextPlace (λ one. share cmp end m one.message.value) list 0 next
@@ -483,12 +480,10 @@ module _ {P : Type 0} (cmp : P → P → Ordering) where
           → ((d : Flight P) → IsNextPlace
           (λ other. share cmp end (get_or list at d).message.value other.message.value) list (at + 1) following)
           → behind list following < behind list next
-      fewer_to_count at is None further =
-          let there = first_there at is in omega (arith, there.high, ap (behind list) is)
-      fewer_to_count at is (Some to) further =
-          let there = first_there at is in
-          let after = further (one_there list at there.high).0 in
-          omega (arith, there.high, ap (behind list) is, after.low, after.high)
+      fewer_to_count at is following further =
+          let d = (one_there list at (first_there at is).high).0 in
+          fewer_ahead (λ (other : Flight P). share cmp end (get_or list at d).message.value other.message.value) list at
+          next following is (first_there at is).high (further d)
 
 -- ---- who is rated anew near the component
 
@@ -505,11 +500,7 @@ module _ {P : Type 0} (cmp : P → P → Ordering) (component : Component P) (u 
 
   pub out_if_kept : keeps component u ≡ true → is_of cmp component u ≡ false
   out_if_kept kept = ap (λ b. is_sender cmp component u.message.origin u.message.recipient && not b) kept
-      ∙ none_and (is_sender cmp component u.message.origin u.message.recipient)
-    where
-      none_and : (b : Bool) → (b && false) ≡ false
-      none_and true = refl
-      none_and false = refl
+      ∙ and-false (is_sender cmp component u.message.origin u.message.recipient)
 
 -- what one drains that has got a rate
 pub rated_rate : {P : Type 0} (one : Flight P) → one.rated ≡ true → (flight_at 0 one).rate ≡ one.rate

@@ -10,34 +10,16 @@ loop-at-init g c =
     (unchanged (IsCountedBy c.args.by) old.list.items, refl, refl, refl, refl, refl)
 
 pub at-requires : goal.at-requires
-at-requires g c =
-    let old = c.args.self.now in
-    omega (
-      arith,
-      changed_length (IsCountedBy c.args.by) old.list.items c.loop-at.self.list.items
-          c.loop-at.at c.loop-at.invariant.0,
-    )
+at-requires g c = omega (arith, changed_length _ _ _ _ c.loop-at.invariant.0)
 
 pub put-requires-clause-place : goal.put-requires-clause-place
-put-requires-clause-place g c =
-    let old = c.args.self.now in
-    omega (
-      arith,
-      changed_length (IsCountedBy c.args.by) old.list.items c.loop-at.self.list.items
-          c.loop-at.at c.loop-at.invariant.0,
-    )
+put-requires-clause-place g c = omega (arith, changed_length _ _ _ _ c.loop-at.invariant.0)
 
 pub put-requires-clause-past : goal.put-requires-clause-past
 put-requires-clause-past g c =
-    let old = c.args.self.now in
     let so_far = c.loop-at.self in
     let x = c.at.result.now in
-    let lt : c.loop-at.at < length so_far.list.items =
-    omega (
-      arith,
-      changed_length (IsCountedBy c.args.by) old.list.items so_far.list.items c.loop-at.at
-          c.loop-at.invariant.0,
-    ) in
+    let lt : c.loop-at.at < length so_far.list.items = omega (arith, changed_length _ _ _ _ c.loop-at.invariant.0) in
     let one = c.in_ok-one.one in
     let counted = c.in_ok-one.ensures.counted in
     ap (λ b. not b || nat_le one.since so_far.at) counted.rated
@@ -46,15 +28,9 @@ put-requires-clause-past g c =
 
 pub put-requires-clause-still_rated : goal.put-requires-clause-still_rated
 put-requires-clause-still_rated g c d is =
-    let old = c.args.self.now in
     let so_far = c.loop-at.self in
     let x = c.at.result.now in
-    let lt : c.loop-at.at < length so_far.list.items =
-    omega (
-      arith,
-      changed_length (IsCountedBy c.args.by) old.list.items so_far.list.items c.loop-at.at
-          c.loop-at.invariant.0,
-    ) in
+    let lt : c.loop-at.at < length so_far.list.items = omega (arith, changed_length _ _ _ _ c.loop-at.invariant.0) in
     let one = c.in_ok-one.one in
     let counted = c.in_ok-one.ensures.counted in
     let here : x ≡ get_or so_far.list.items c.loop-at.at d =
@@ -63,15 +39,9 @@ put-requires-clause-still_rated g c d is =
 
 pub put-requires-clause-message : goal.put-requires-clause-message
 put-requires-clause-message g c d =
-    let old = c.args.self.now in
     let so_far = c.loop-at.self in
     let x = c.at.result.now in
-    let lt : c.loop-at.at < length so_far.list.items =
-    omega (
-      arith,
-      changed_length (IsCountedBy c.args.by) old.list.items so_far.list.items c.loop-at.at
-          c.loop-at.invariant.0,
-    ) in
+    let lt : c.loop-at.at < length so_far.list.items = omega (arith, changed_length _ _ _ _ c.loop-at.invariant.0) in
     let one = c.in_ok-one.one in
     let counted = c.in_ok-one.ensures.counted in
     let here : x ≡ get_or so_far.list.items c.loop-at.at d =
@@ -84,12 +54,7 @@ loop-at-preserved g c =
     let so_far = c.loop-at.self in
     let x = c.at.result.now in
     let h = c.loop-at.invariant in
-    let lt : c.loop-at.at < length so_far.list.items =
-    omega (
-      arith,
-      changed_length (IsCountedBy c.args.by) old.list.items so_far.list.items c.loop-at.at
-          h.0,
-    ) in
+    let lt : c.loop-at.at < length so_far.list.items = omega (arith, changed_length _ _ _ _ h.0) in
     let one = c.in_ok-one.one in
     let counted = c.in_ok-one.ensures.counted in (
       subst
@@ -108,11 +73,6 @@ pub returns-clause-divided : goal.returns-clause-divided
 returns-clause-divided g c =
     let old = c.args.self.now in
     let now = c.loop-at.self in
-    let end : length now.list.items ≤ c.loop-at.at =
-    omega (
-      arith,
-      changed_length (IsCountedBy c.args.by) old.list.items now.list.items c.loop-at.at
-          c.loop-at.invariant.0,
-    ) in
+    let end : length now.list.items ≤ c.loop-at.at = omega (arith, changed_length _ _ _ _ c.loop-at.invariant.0) in
     all_changed (IsCountedBy c.args.by) old.list.items now.list.items c.loop-at.at
     c.loop-at.invariant.0 end

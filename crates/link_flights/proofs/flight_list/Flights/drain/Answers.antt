@@ -33,12 +33,7 @@ loop-at-init g c =
     )
 
 pub put-requires-clause-place : goal.put-requires-clause-place
-put-requires-clause-place g c =
-    omega (
-      arith,
-      changed_length (IsBrought c.args.self.now.at c.args.now) c.args.self.now.list.items c.loop-at.self.list.items
-          c.loop-at.at c.loop-at.invariant.0,
-    )
+put-requires-clause-place g c = omega (arith, changed_length _ _ _ _ c.loop-at.invariant.0)
 
 pub put-requires-clause-past : goal.put-requires-clause-past
 put-requires-clause-past g c =
@@ -63,12 +58,7 @@ loop-at-preserved g c =
     let old = c.args.self.now in
     let so_far = c.loop-at.self in
     let at_is = c.loop-at.invariant.1 in
-    let lt : c.loop-at.at < length so_far.list.items =
-    omega (
-      arith,
-      changed_length (IsBrought old.at c.args.now) old.list.items so_far.list.items c.loop-at.at
-          c.loop-at.invariant.0,
-    ) in
+    let lt : c.loop-at.at < length so_far.list.items = omega (arith, changed_length _ _ _ _ c.loop-at.invariant.0) in
     elim c.if-goes_back-2.branch [
       | then-goes_back-2+in_ok-one+in_ok-put w ↦
           let x = c.at-one.result.now in
@@ -119,12 +109,10 @@ pub invariant_of-self : goal.invariant_of-self
 invariant_of-self g c =
     let old = c.args.self.now in
     let now = c.loop-at.self in
-    let R = IsBrought old.at c.args.now in
-    let end : length now.list.items ≤ c.loop-at.at =
-    omega (arith, changed_length R old.list.items now.list.items c.loop-at.at c.loop-at.invariant.0) in
+    let end : length now.list.items ≤ c.loop-at.at = omega (arith, changed_length _ _ _ _ c.loop-at.invariant.0) in
     record {
       past = all_past old.at c.args.now old.list.items now.list.items
-          (all_changed R old.list.items now.list.items c.loop-at.at c.loop-at.invariant.0 end);
+          (all_changed (IsBrought old.at c.args.now) old.list.items now.list.items c.loop-at.at c.loop-at.invariant.0 end);
       scaled = now.scaled;
       counted = now.counted;
       have_rates = now.have_rates;
@@ -134,26 +122,17 @@ pub returns-clause-drained : goal.returns-clause-drained
 returns-clause-drained g c =
     let old = c.args.self.now in
     let now = c.loop-at.self in
-    let R = IsBrought old.at c.args.now in
-    let end : length now.list.items ≤ c.loop-at.at =
-    omega (arith, changed_length R old.list.items now.list.items c.loop-at.at c.loop-at.invariant.0) in
+    let end : length now.list.items ≤ c.loop-at.at = omega (arith, changed_length _ _ _ _ c.loop-at.invariant.0) in
     all_drained old.at c.args.now old.list.items now.list.items
-    (all_changed R old.list.items now.list.items c.loop-at.at c.loop-at.invariant.0 end)
+    (all_changed (IsBrought old.at c.args.now) old.list.items now.list.items c.loop-at.at c.loop-at.invariant.0 end)
 
 pub returns-clause-timed : goal.returns-clause-timed
 returns-clause-timed g c later timed =
     let old = c.args.self.now in
     let now = c.loop-at.self in
-    let R = IsBrought old.at c.args.now in
-    let end : length now.list.items ≤ c.loop-at.at =
-    omega (arith, changed_length R old.list.items now.list.items c.loop-at.at c.loop-at.invariant.0) in
+    let end : length now.list.items ≤ c.loop-at.at = omega (arith, changed_length _ _ _ _ c.loop-at.invariant.0) in
     all_timed old.at c.args.now old.list.items now.list.items
-    (all_changed R old.list.items now.list.items c.loop-at.at c.loop-at.invariant.0 end) later timed
+    (all_changed (IsBrought old.at c.args.now) old.list.items now.list.items c.loop-at.at c.loop-at.invariant.0 end) later timed
 
 pub at-one-requires : goal.at-one-requires
-at-one-requires g c =
-    omega (
-      arith,
-      changed_length (IsBrought c.args.self.now.at c.args.now) c.args.self.now.list.items c.loop-at.self.list.items
-          c.loop-at.at c.loop-at.invariant.0,
-    )
+at-one-requires g c = omega (arith, changed_length _ _ _ _ c.loop-at.invariant.0)

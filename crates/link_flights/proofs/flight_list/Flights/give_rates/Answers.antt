@@ -9,14 +9,7 @@ returns-then-is_empty-clause-rated g c =
     let caps = caps_of g.P.Ord.cmp c.args.peers.now.entries c.args.pairs.now.entries in
     let none = none_there old.list.items (sym c.is_empty.ensures ∙ c.if-is_empty.true) in
     let h = none_given g.P.Ord.cmp caps old old refl refl none refl in
-    record {
-      times = h.times;
-      scale = h.scale;
-      at = h.at;
-      each = h.each;
-      fair = h.fair;
-      timed = h.timed;
-    }
+    record { times = h.times; scale = h.scale; at = h.at; each = h.each; fair = h.fair; timed = h.timed }
 
 pub returns-in-Some-clause-rated : goal.returns-in-Some-clause-rated
 returns-in-Some-clause-rated g c =
@@ -24,14 +17,7 @@ returns-in-Some-clause-rated g c =
     let caps = caps_of cmp c.args.peers.now.entries c.args.pairs.now.entries in
     let h = (subst (ArePartRated cmp caps c.args.self.now c.rate_part.new.self) c.in-Some.is
     c.in_ok-unsearched.ensures.given).0 in
-    record {
-      times = h.times;
-      scale = h.scale;
-      at = h.at;
-      each = h.each;
-      fair = h.fair;
-      timed = h.timed;
-    }
+    record { times = h.times; scale = h.scale; at = h.at; each = h.each; fair = h.fair; timed = h.timed }
 
 pub rate_one-requires : goal.rate_one-requires
 rate_one-requires g c = record {

@@ -69,14 +69,7 @@ returns-clause-rated g c =
     whole_given cmp caps all rates old (record c.set_rates.new.self { scale = c.grow.new.units; scaled = scaled })
     g.met.P.Ord.total (looked_up cmp g.met.P.Ord.total c.args.peers.now.entries c.args.pairs.now.entries) old.scaled
     fair given grown e.at e.timed c.whole-all.ensures.whole c.whole-all.ensures.level in
-    record {
-      times = h.times;
-      scale = h.scale;
-      at = h.at;
-      each = h.each;
-      fair = h.fair;
-      timed = h.timed;
-    }
+    record { times = h.times; scale = h.scale; at = h.at; each = h.each; fair = h.fair; timed = h.timed }
 
 pub invariant_of-self : goal.invariant_of-self
 invariant_of-self g c =

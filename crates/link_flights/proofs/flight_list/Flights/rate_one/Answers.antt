@@ -15,14 +15,7 @@ returns-clause-rated g c =
     let h =
     one_given cmp caps c.args.self.now c.rerate.new.self e.scale e.at c.requires.one c.in_ok-rate.rate
     c.in_ok-rate.ensures.fair e.rerated in
-    record {
-      times = h.times;
-      scale = h.scale;
-      at = h.at;
-      each = h.each;
-      fair = h.fair;
-      timed = h.timed;
-    }
+    record { times = h.times; scale = h.scale; at = h.at; each = h.each; fair = h.fair; timed = h.timed }
 
 pub returns-clause-kept : goal.returns-clause-kept
 returns-clause-kept g c =

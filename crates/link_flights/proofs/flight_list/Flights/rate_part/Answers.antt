@@ -16,14 +16,7 @@ returns-clause-given g c =
     let h =
     beside_given cmp caps component _ mid r.0 g.met.P.Ord.total (looked_up cmp g.met.P.Ord.total peers pairs)
     c.args.done.now.items touched.closed touched.loose touched.tied c.requires.before touched.level c.requires.updated in (
-      record {
-        times = h.times;
-        scale = h.scale;
-        at = h.at;
-        each = h.each;
-        fair = h.fair;
-        timed = h.timed;
-      },
+      record { times = h.times; scale = h.scale; at = h.at; each = h.each; fair = h.fair; timed = h.timed },
       r.1,
     )
 

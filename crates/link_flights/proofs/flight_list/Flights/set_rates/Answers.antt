@@ -36,19 +36,15 @@ loop-number-init g c =
 
 pub bounds-level_of-number : goal.bounds-level_of-number
 bounds-level_of-number g c =
-    let levels = c.args.levels.now in
-    let level_of = c.args.level_of.now in
     let n = next_in c.loop-number.invariant.0
     (omega (arith, c.loop-number-test.true, ap length c.requires.places)) in
-    omega (arith, has_rate n.up_to n.x n.stands n.of, length-map level_of (parts_of_level levels))
+    omega (arith, has_rate n.up_to n.x n.stands n.of, length-map c.args.level_of.now (parts_of_level c.args.levels.now))
 
 pub rerate-requires-clause-place : goal.rerate-requires-clause-place
 rerate-requires-clause-place g c =
     let n = next_in c.loop-number.invariant.0
     (omega (arith, c.loop-number-test.true, ap length c.requires.places)) in
-    let place : get_or c.args.places.now c.loop-number.number 0 ≡ n.at =
-    ap (λ ps. get_or ps c.loop-number.number 0) c.requires.places ∙ n.place in
-    omega (arith, place, stands_within n.up_to n.x n.stands)
+    omega (arith, ap (λ ps. get_or ps c.loop-number.number 0) c.requires.places, n.place, stands_within n.up_to n.x n.stands)
 
 pub rerate-requires-clause-left : goal.rerate-requires-clause-left
 rerate-requires-clause-left g c d none =
@@ -70,9 +66,7 @@ pub rerate-requires-clause-counted : goal.rerate-requires-clause-counted
 rerate-requires-clause-counted g c =
     let n = next_in c.loop-number.invariant.0
     (omega (arith, c.loop-number-test.true, ap length c.requires.places)) in
-    let place : get_or c.args.places.now c.loop-number.number 0 ≡ n.at =
-    ap (λ ps. get_or ps c.loop-number.number 0) c.requires.places ∙ n.place in
-    omega (arith, place, n.after, c.loop-number.invariant.0.counted, c.loop-number.invariant.0.behind)
+    omega (arith, ap (λ ps. get_or ps c.loop-number.number 0) c.requires.places, n.place, n.after, c.loop-number.invariant.0.counted, c.loop-number.invariant.0.behind)
 
 pub loop-number-preserved : goal.loop-number-preserved
 loop-number-preserved g c =
@@ -118,13 +112,10 @@ loop-number-preserved g c =
 
 pub returns-clause-rerated : goal.returns-clause-rerated
 returns-clause-rerated g c =
-    let old = c.args.self.now in
     let now = c.loop-number.self in
-    let component = c.args.component.now in
     let h = c.loop-number.invariant.0 in
-    let rates = rates_of_levels c.args.levels.now c.args.level_of.now in
-    let times = product c.args.growth.now in
-    let none = none_more g.P.Ord.cmp component old.at times rates old.list.items now.list.items
+    let none = none_more g.P.Ord.cmp c.args.component.now c.args.self.now.at (product c.args.growth.now)
+    (rates_of_levels c.args.levels.now c.args.level_of.now) c.args.self.now.list.items now.list.items
     c.loop-number.number h.place h.up_to h.to_come
     (omega (arith, c.loop-number-test.false, ap length c.requires.places)) in
     let all = to_end (length h.up_to.rest) h.place c.loop-number.number h.up_to refl none in
@@ -132,13 +123,9 @@ returns-clause-rerated g c =
 
 pub returns-clause-timed : goal.returns-clause-timed
 returns-clause-timed g c =
-    let old = c.args.self.now in
-    let now = c.loop-number.self in
-    let component = c.args.component.now in
     let h = c.loop-number.invariant.0 in
-    let rates = rates_of_levels c.args.levels.now c.args.level_of.now in
-    let times = product c.args.growth.now in
-    let none = none_more g.P.Ord.cmp component old.at times rates old.list.items now.list.items
+    let none = none_more g.P.Ord.cmp c.args.component.now c.args.self.now.at (product c.args.growth.now)
+    (rates_of_levels c.args.levels.now c.args.level_of.now) c.args.self.now.list.items c.loop-number.self.list.items
     c.loop-number.number h.place h.up_to h.to_come
     (omega (arith, c.loop-number-test.false, ap length c.requires.places)) in
     let all = to_end (length h.up_to.rest) h.place c.loop-number.number h.up_to refl none in

@@ -55,48 +55,30 @@ loop-next-init g c one there =
 
 pub count_one-requires-clause-within : goal.count_one-requires-clause-within
 count_one-requires-clause-within g c =
-    let cmp = g.P.Ord.cmp in
     let self = c.args.self.now in
     let component = c.args.component.now in
-    let end = c.args.end in
-    let x = what_is_listed (λ (f : Flight g.row.P.Denot). is_of cmp component (flight_at 0 f)) self.list.items c.args.at
-    (subst (λ ps. Contains ps c.args.at) c.requires.places c.requires.at) in
-    let m = x.0.message.value in
-    let all = c.in_ok-cap.cap in
-    let next = c.loop-next.next in
-    let side = side_of c.loop-next.side in
-    let h = c.loop-next.invariant x.0 x.1 in
-    next_within cmp end m component self.at self.list.items all next side h c.in-Some-next.at c.in-Some-next.is
+    let x = what_is_listed (λ (f : Flight g.row.P.Denot). is_of g.P.Ord.cmp component (flight_at 0 f)) self.list.items
+    c.args.at (subst (λ ps. Contains ps c.args.at) c.requires.places c.requires.at) in
+    next_within g.P.Ord.cmp c.args.end x.0.message.value component self.at self.list.items c.in_ok-cap.cap c.loop-next.next
+    (side_of c.loop-next.side) (c.loop-next.invariant x.0 x.1) c.in-Some-next.at c.in-Some-next.is
 
 pub next_at-next-requires : goal.next_at-next-requires
 next_at-next-requires g c =
-    let cmp = g.P.Ord.cmp in
     let self = c.args.self.now in
     let component = c.args.component.now in
-    let end = c.args.end in
-    let x = what_is_listed (λ (f : Flight g.row.P.Denot). is_of cmp component (flight_at 0 f)) self.list.items c.args.at
-    (subst (λ ps. Contains ps c.args.at) c.requires.places c.requires.at) in
-    let m = x.0.message.value in
-    let all = c.in_ok-cap.cap in
-    let next = c.loop-next.next in
-    let side = side_of c.loop-next.side in
-    let h = c.loop-next.invariant x.0 x.1 in
-    next_within cmp end m component self.at self.list.items all next side h c.in-Some-next.at c.in-Some-next.is
+    let x = what_is_listed (λ (f : Flight g.row.P.Denot). is_of g.P.Ord.cmp component (flight_at 0 f)) self.list.items
+    c.args.at (subst (λ ps. Contains ps c.args.at) c.requires.places c.requires.at) in
+    next_within g.P.Ord.cmp c.args.end x.0.message.value component self.at self.list.items c.in_ok-cap.cap c.loop-next.next
+    (side_of c.loop-next.side) (c.loop-next.invariant x.0 x.1) c.in-Some-next.at c.in-Some-next.is
 
 pub loop-next-smaller : goal.loop-next-smaller
 loop-next-smaller g c =
-    let cmp = g.P.Ord.cmp in
     let self = c.args.self.now in
     let component = c.args.component.now in
-    let end = c.args.end in
-    let x = what_is_listed (λ (f : Flight g.row.P.Denot). is_of cmp component (flight_at 0 f)) self.list.items c.args.at
-    (subst (λ ps. Contains ps c.args.at) c.requires.places c.requires.at) in
-    let m = x.0.message.value in
-    let all = c.in_ok-cap.cap in
-    let next = c.loop-next.next in
-    let side = side_of c.loop-next.side in
-    let h = c.loop-next.invariant x.0 x.1 in
-    fewer_to_count cmp end m component self.at self.list.items all next side h c.in-Some-next.at c.in-Some-next.is
+    let x = what_is_listed (λ (f : Flight g.row.P.Denot). is_of g.P.Ord.cmp component (flight_at 0 f)) self.list.items
+    c.args.at (subst (λ ps. Contains ps c.args.at) c.requires.places c.requires.at) in
+    fewer_to_count g.P.Ord.cmp c.args.end x.0.message.value component self.at self.list.items c.in_ok-cap.cap c.loop-next.next
+    (side_of c.loop-next.side) (c.loop-next.invariant x.0 x.1) c.in-Some-next.at c.in-Some-next.is
     c.next_at-next.result c.next_at-next.ensures
 
 pub loop-next-preserved : goal.loop-next-preserved
