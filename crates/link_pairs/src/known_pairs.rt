@@ -115,6 +115,7 @@ impl<P: Peer> Pairs<P> {
     }
 
     /// What is known of the pair, if anything is.
+    #[inline(never)]
     fn find(&self, origin: &P, recipient: &P) -> Option<&Known>
         ensures cap { option_and_then (λ known. known.now.cap) result
             ≡ link_of P.cmp self.now.entries origin.now recipient.now }
@@ -125,6 +126,7 @@ impl<P: Peer> Pairs<P> {
     }
 
     /// The cap on what goes from the one to the other.
+    #[inline(always)]
     pub fn cap(&self, origin: &P, recipient: &P) -> Option<u128>
         ensures cap { result ≡ link_of P.cmp self.now.entries origin.now recipient.now }
         ensures small { IfSome result (λ cap. cap < 2 ^ 64) }
