@@ -61,8 +61,8 @@ impl<W: Write> Tally<W> {
         }
     }
 
-    /// Takes note of bytes that were written. Behind a byte that stands otherwise than in `REFUSED`, only the next line
-    /// can tell more.
+    /// Takes note of bytes that were written. What is no line's beginning is passed over up to the
+    /// next byte that `REFUSED` begins with: it begins a line where it follows an end byte.
     fn note_all(&mut self, bytes: &[u8])
         ensures { self.new.output ≡ self.old.output }
     {

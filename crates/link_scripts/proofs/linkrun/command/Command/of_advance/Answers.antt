@@ -9,5 +9,5 @@ returns-in-None c =
 
 pub returns-in-Some : goal.returns-in-Some
 returns-in-Some c =
-    says_less _ _ _ (named_parts (codes "advance") c.args.columns.now _ refl c.of-words.ensures) _ c.in-Some.field-0.now _
-    c.take_advance-command.ensures c.in-Some.ensures.taken
+    says_less _ _ _ (named_parts (codes "advance") c.args.columns.now _ refl c.of-words.ensures) _
+    c.in-Some.field-0.now _ c.take_advance-command.ensures c.in-Some.ensures.taken
