@@ -74,9 +74,7 @@ module _ (flags : List Bool) where
 
   from_sides_in : (sides : List Side) (new : Side) → In (sides_in flags sides) new → IsFrom sides new
   from_sides_in [] new h = absurd h
-  from_sides_in (s ∷ sides) new h =
-      by_part (in_either (cond (list_any (is_in flags) s.users) (renumbered s ∷ []) []) (sides_in flags sides) new h)
-      (λ g. from_sides_in sides new g)
+  from_sides_in (s ∷ sides) new h = by_part (in_either _ _ new h) (λ g. from_sides_in sides new g)
     where
       here : (t : Bool) → list_any (is_in flags) s.users ≡ t → In (cond t (renumbered s ∷ []) []) new
           → IsFrom (s ∷ sides) new
@@ -88,7 +86,7 @@ module _ (flags : List Bool) where
 
       by_part : In (cond (list_any (is_in flags) s.users) (renumbered s ∷ []) []) new ⊎ In (sides_in flags sides) new
           → (In (sides_in flags sides) new → IsFrom sides new) → IsFrom (s ∷ sides) new
-      by_part (inl g) ih = here (list_any (is_in flags) s.users) refl g
+      by_part (inl g) ih = here _ refl g
       by_part (inr g) ih =
           let f = ih g in
           record { side = f.side; listed = inr f.listed; user = f.user; used = f.used; own = f.own; is = f.is }
@@ -142,12 +140,8 @@ module _ (flags : List Bool) where
         → Uses (sides_in flags sides) (place_in flags u) (renumbered side)
     uses_renumbered side u own uses =
         let used = in_from_contains side.users u uses.used in record {
-          listed =
-              contains_from_in (sides_in flags sides) (renumbered side)
-              (to_sides_in sides side u (in_from_contains sides side uses.listed) used own);
-          used =
-              contains_from_in (map (place_in flags) side.users) (place_in flags u)
-              (in_map (place_in flags) side.users u used);
+          listed = contains_from_in _ _ (to_sides_in sides side u (in_from_contains sides side uses.listed) used own);
+          used = contains_from_in _ _ (in_map _ side.users u used);
         }
 
     module _ (per : ℕ) (parts : ℕ → ℕ) where
@@ -157,20 +151,17 @@ module _ (flags : List Bool) where
       renumbered_bottleneck : (u : ℕ) → is_in flags u ≡ true → HasBottleneck sides per parts u
           → HasBottleneck (sides_in flags sides) per kept_parts (place_in flags u)
       renumbered_bottleneck u own b =
-          let all =
-          all_own b.side u (in_from_contains sides b.side b.uses.listed)
+          let all = all_own b.side u (in_from_contains sides b.side b.uses.listed)
           (in_from_contains b.side.users u b.uses.used) own in
           record {
             side = renumbered b.side;
             uses = uses_renumbered b.side u own b.uses;
             full = load_kept parts b.side all ∙ b.full;
             greatest =
-                All-from_contains (λ i. kept_parts i ≤ kept_parts (place_in flags u))
-                (map (place_in flags) b.side.users) (λ i used.
+                All-from_contains (λ i. kept_parts i ≤ kept_parts (place_in flags u)) _ (λ i used.
                 let r = from_map (place_in flags) b.side.users i (in_from_contains (map (place_in flags) b.side.users) i
                 used) in
-                let le =
-                All-contains (λ v. parts v ≤ parts u) b.side.users r.0 b.greatest
+                let le = All-contains (λ v. parts v ≤ parts u) b.side.users r.0 b.greatest
                 (contains_from_in b.side.users r.0 r.1) in
                 let mine : kept_parts (place_in flags u) ≡ parts u = ap parts (old_of_place flags u own) in
                 let other = ap kept_parts (sym r.2) ∙ ap parts (old_of_place flags r.0 (all r.0 r.1)) in

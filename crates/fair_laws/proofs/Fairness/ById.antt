@@ -37,8 +37,7 @@ module _ {P : Type 0} (cmp : P → P → Ordering) (order : IsTotalOrder cmp) wh
 
     rated_at : (f : Flow P) → In flows f → IsRatedAt f
     rated_at f h =
-        let r = from_map (λ (x : Allotted P). x.flow) said.all f (subst (λ (fs : List (Flow P)). In fs f)
-        (sym said.flows_are) h) in
+        let r = from_map _ said.all f (subst (λ (fs : List (Flow P)). In fs f) (sym said.flows_are) h) in
         let own = rate_by_id said.all r.0 (subst HaveDistinctIds (sym said.flows_are) distinct) r.1 in
         let same : last_rate f.id flows a.rates ≡ last_rate r.0.flow.id (flows_of said.all) (rates_of said.all) =
         search rules in

@@ -30,8 +30,7 @@ record Lifted {X Y : Type 0} (f : X → Y) (xs : List X) (images : List Y) : Typ
 
 lift : {X Y : Type 0} (f : X → Y) (xs : List X) (ys : List Y) → IsPermutation (map f xs) ys → Lifted f xs ys
 lift {X} {Y} f xs ys p =
-    IsPermutation-keeps (map f xs) (Lifted f xs) (record { all = xs; permuted = IsPermutation-refl xs; are = refl })
-    step ys p
+    IsPermutation-keeps (map f xs) _ (record { all = xs; permuted = IsPermutation-refl xs; are = refl }) step ys p
   where
     step : (l : List Y) (i j : ℕ) → i < length l → j < length l → Lifted f xs l → Lifted f xs (swap l i j)
     step l i j il jl h =
@@ -127,9 +126,7 @@ pub same_last_rate : {P : Type 0} (cmp : P → P → Ordering) → IsTotalOrder 
     → AreFairUnder cmp caps others other_rates → (id : ℕ) → last_rate id others other_rates ≡ last_rate id flows rates
 same_last_rate {P} cmp order caps flows others rates other_rates of distinct p fair other_fair id =
     let s = among_from cmp caps order of flows rates fair in
-    let l =
-    lift (λ (x : Allotted P). x.flow) s.all others
-    (subst (λ (fs : List (Flow P)). IsPermutation fs others) (sym s.flows_are) p) in
+    let l = lift _ s.all others (subst (λ (fs : List (Flow P)). IsPermutation fs others) (sym s.flows_are) p) in
     let whole =
     under_from cmp caps order of s.per l.all (permuted_among cmp caps s.per s.all l.all l.permuted s.fair) in
     let under : AreFairUnder cmp caps others (rates_of l.all) = search rules in
@@ -138,9 +135,8 @@ same_last_rate {P} cmp order caps flows others rates other_rates of distinct p f
     subst (λ (fs : List (Flow P)). count_by (has id) fs ≤ 1) (sym s.flows_are) (distinct id) in
     let same_count : count_by (has id) others ≡ count_by (has id) flows = search (rules, sum_by-IsPermutation) in
     let few' : count_by (has id) (flows_of l.all) ≤ 1 = search rules in
-    ap₂ (λ (fs : List (Flow P)) (rs : List Rate). last_rate id fs rs) (sym l.are) one
-    ∙ same_rate id s.all l.all l.permuted few few'
-    ∙ ap₂ (λ (fs : List (Flow P)) (rs : List Rate). last_rate id fs rs) s.flows_are s.rates_are
+    ap₂ (λ (fs : List (Flow P)) (rs : List Rate). last_rate id fs rs) (sym l.are) one ∙ same_rate id s.all l.all
+    l.permuted few few' ∙ ap₂ (λ (fs : List (Flow P)) (rs : List Rate). last_rate id fs rs) s.flows_are s.rates_are
 
 pub order_does_not_matter : {P : Type 0} (cmp : P → P → Ordering) → IsTotalOrder cmp → OrderDoesNotMatter cmp
 order_does_not_matter cmp order caps flows others m n of distinct p a b id =

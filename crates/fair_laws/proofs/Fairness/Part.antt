@@ -48,8 +48,7 @@ module _ {P : Type 0} (cmp : P → P → Ordering) (order : IsTotalOrder cmp) (p
     both_ends : (x : Allotted P) → In xs x → is_among cmp peers x.flow.origin ≡ is_among cmp peers x.flow.recipient
     both_ends x h =
         All-contains (λ (f : Flow P). is_among cmp peers f.origin ≡ is_among cmp peers f.recipient) flows x.flow ends
-        (contains_from_in flows x.flow
-        (subst (λ (fs : List (Flow P)). In fs x.flow) same (in_map (λ (x : Allotted P). x.flow) xs x h)))
+        (contains_from_in flows x.flow (subst (λ (fs : List (Flow P)). In fs x.flow) same (in_map _ xs x h)))
 
     together : (t : Subject P) (x y : Allotted P) → In xs x → In xs y → limits cmp t x.flow ≡ true
         → limits cmp t y.flow ≡ true → is_of_set cmp peers x.flow ≡ is_of_set cmp peers y.flow
@@ -59,9 +58,8 @@ pub part_is_fair : {P : Type 0} (cmp : P → P → Ordering) → IsTotalOrder cm
 part_is_fair {P} cmp order caps peers flows rates of ends fair =
     let mine = is_of_set cmp peers in
     let s = among_from cmp caps order of flows rates fair in
-    let whole =
-    under_from cmp caps order of s.per (part cmp caps mine s.all)
-    (part_among cmp caps mine s.per s.all s.fair (together cmp order peers caps flows ends s.all s.flows_are)) in
+    let whole = under_from cmp caps order of s.per _ (part_among cmp caps mine s.per s.all s.fair
+    (together cmp order peers caps flows ends s.all s.flows_are)) in
     let flows_is : flows_of (part cmp caps mine s.all) ≡ filter mine flows = search (rules, flows_of_part) in
     let rates_is : rates_of (part cmp caps mine s.all) ≡ flagged (map mine flows) rates =
     search (rules, rates_of_part) in

@@ -130,8 +130,7 @@ module _ (flags : List Bool) (routes : List (List ℕ)) (link cap : ℕ) where
   none_own all =
       let off : (x : ℕ) → In users x → is_in flags x ≡ false = λ x h.
       All-contains (λ user. is_in flags user ≡ false) users x all (contains_from_in users x h) in
-      let empty : others ≡ [] =
-      sym (kept_places flags (has_link link) routes) ∙ ap (map (place_in flags)) (filter_none (is_in flags) users off) in
+      let empty : others ≡ [] = sym (kept_places flags _ routes) ∙ ap (map _) (filter_none _ users off) in
       (rw (any_fails (is_in flags) users off) refl) ∙ sym (none_left empty)
 
 side_apart : (flags : List Bool) (routes : List (List ℕ)) (link : ℕ) (cap : Option ℕ)
@@ -155,11 +154,10 @@ sides_apart : (flags : List Bool) (routes : List (List ℕ)) (link : ℕ) (caps 
     → sides_in flags (sides_from link caps routes) ≡ sides_from link caps (flagged flags routes)
 sides_apart flags routes link [] apart = refl
 sides_apart flags routes link (cap ∷ caps) apart =
-    sides_in-append flags (side_of_link routes link cap) (sides_from (link + 1) caps routes)
-    ∙ ap (λ ss. ss ++ sides_in flags (sides_from (link + 1) caps routes)) (side_apart flags routes link cap
-    (λ side h. apart side (in_left (side_of_link routes link cap) (sides_from (link + 1) caps routes) side h)))
-    ∙ ap (λ ss. side_of_link (flagged flags routes) link cap ++ ss) (sides_apart flags routes (link + 1) caps
-    (λ side h. apart side (in_right (side_of_link routes link cap) (sides_from (link + 1) caps routes) side h)))
+    sides_in-append flags (side_of_link routes link cap) (sides_from (link + 1) caps routes) ∙ ap
+    (λ ss. ss ++ sides_in flags (sides_from (link + 1) caps routes)) (side_apart flags routes link cap
+    (λ side h. apart side (in_left _ _ side h))) ∙ ap (λ ss. side_of_link (flagged flags routes) link cap ++ ss)
+    (sides_apart flags routes (link + 1) caps (λ side h. apart side (in_right _ _ side h)))
 
 length-flagged : {X Y : Type 0} (flags : List Bool) (xs : List X) (ys : List Y) → length xs ≡ length ys
     → length (flagged flags xs) ≡ length (flagged flags ys)

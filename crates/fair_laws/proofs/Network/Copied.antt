@@ -71,13 +71,8 @@ module _ (caps : List (Option ℕ)) (routes : List (List ℕ)) (weights : List �
   same_loads link parts =
       let test : ℕ → Bool = λ i. has_link link (route i) in
       let ranges : range_with_len 0 (length routes) ≡ range = ap (range_with_len 0) (sym are.one_each) in
-      sum_often weights parts (users_of link routes)
-      ∙ sum_all (λ u. weight_at weights u * parts u) (has_link link) [] routes
-      ∙ ap (sum_by (λ i. cond (test i) (weight_at weights i * parts i) 0)) ranges
-      ∙ sum_by_same (λ i. cond (test i) (weight_at weights i * parts i) 0)
-      (λ i. weight_at weights i * cond (test i) (parts i) 0) range
-      (λ k d inside. weigh_if (test (get_or range k d)) (weight_at weights (get_or range k d)) (parts (get_or range k d)))
-      ∙ sym (sum_often weights (λ i. cond (test i) (parts i) 0) range) ∙ sym (sum_at parts (has_link link) route order)
+      sum_often weights parts _ ∙ sum_all _ _ [] routes ∙ ap (sum_by _) ranges ∙ sum_by_same _ _ range
+      (λ k d inside. weigh_if _ _ _) ∙ sym (sum_often weights _ range) ∙ sym (sum_at parts _ route order)
 
   side_for : (link : ℕ) (old new : Side) → old.users ≡ users_of link routes → new.users ≡ users_of link news
       → new.cap ≡ old.cap → IsTheSide of (length order) (weighted weights old) new
@@ -224,13 +219,11 @@ module _ (caps : List (Option ℕ)) (routes : List (List ℕ)) (weights : List �
       → sum_by (λ copy. h (flow_of copy)) (copies_of weights flow) ≡ weight_at weights flow * h flow
   counted flow within h =
       let test : ℕ → Bool = λ i. i == flow in
-      let range = range_with_len 0 (length weights) in
-      ap (λ xs. sum_by (λ copy. h (flow_of copy)) (places_from 0 test xs)) (sym (map-id places))
-      ∙ sum_at h test (λ i. i) places ∙ sum_often weights (λ i. cond (test i) (h i) 0) range
-      ∙ sym (sum_by_same (λ i. cond (test i) (weight_at weights i * h i) 0)
-      (λ i. weight_at weights i * cond (test i) (h i) 0) range
-      (λ k d inside. weigh_if caps routes weights are (test (get_or range k d)) (weight_at weights (get_or range k d)) (h (get_or range k d))))
-      ∙ one_of (λ i. weight_at weights i * h i) flow 0 (length weights) (omega arith) (omega (arith, within))
+      let range = range_with_len 0 _ in
+      ap (λ xs. sum_by (λ copy. h (flow_of copy)) (places_from 0 test xs)) (sym (map-id places)) ∙ sum_at h test
+      (λ i. i) places ∙ sum_often weights _ range ∙ sym (sum_by_same _ _ range
+      (λ k d inside. weigh_if caps routes weights are (test _) (weight_at weights (get_or range k d)) (h _))) ∙ one_of
+      (λ i. weight_at weights i * h i) flow 0 (length weights) (omega arith) (omega (arith, within))
 
   module _ (flow : ℕ) (within : flow < length weights) where
     -- each of its copies stands for the flow
@@ -256,22 +249,18 @@ module _ (caps : List (Option ℕ)) (routes : List (List ℕ)) (weights : List �
     together : IsLimited sides flow
         → sum_by parts (copies_of weights flow) * fair.per ≡ by_weight weights fair.parts flow * per
     together limited =
-        sym (sum_by-scaled parts fair.per (copies_of weights flow))
-        ∙ sum_by_same (λ copy. parts copy * fair.per) (λ copy. fair.parts (flow_of copy) * per) (copies_of weights flow)
-        (All-from_contains (λ copy. parts copy * fair.per ≡ fair.parts (flow_of copy) * per) (copies_of weights flow)
-        (λ copy has. same_amounts singles per fair.per parts (λ c. fair.parts (flow_of c)) other also copy
-        (copy_limited limited copy has)))
-        ∙ sum_by-scaled (λ copy. fair.parts (flow_of copy)) per (copies_of weights flow)
-        ∙ ap (λ n. n * per) (counted flow within fair.parts)
+        sym (sum_by-scaled parts fair.per (copies_of weights flow)) ∙ sum_by_same (λ copy. parts copy * fair.per)
+        (λ copy. fair.parts _ * per) _ (All-from_contains _ _ (λ copy has. same_amounts singles per fair.per parts _
+        other also copy (copy_limited limited copy has))) ∙ sum_by-scaled (λ copy. fair.parts _) per
+        (copies_of weights flow) ∙ ap (λ n. n * per) (counted flow within fair.parts)
 
     by_rate : (rate : Rate) → IsRateOf sides fair.per (by_weight weights fair.parts) flow rate
         → IsTogether singles per parts (copies_of weights flow) rate
     by_rate Unlimited none =
-        All-from_contains (λ copy. ¬ IsLimited singles copy) (copies_of weights flow)
+        All-from_contains (λ copy. ¬ IsLimited singles copy) _
         (λ copy has limited. none (flow_limited copy has limited))
     by_rate (Finite ratio) (limited, worth) =
-        worth_too ratio.numerator ratio.denominator (sum_by parts (copies_of weights flow)) per
-        (by_weight weights fair.parts flow) fair.per fair.fair.some_part (together limited) worth
+        worth_too ratio.numerator ratio.denominator _ per _ fair.per fair.fair.some_part (together limited) worth
 
 pub weights_are_copies : WeightsAreCopies
 weights_are_copies caps routes weights rates are fair per parts other flow d within =

@@ -6,7 +6,7 @@ use Rattle.fair_laws.proofs.Common.{sum_by-cons, slice_get-get_or, slice_get-map
 use Rattle.fair_laws.proofs.Common.{IsRateOf, places_from, Unlimited, in_map, in_from_contains, contains_from_in}
 use Rattle.fair_laws.proofs.Common.{from_map, any_passes, routes_at, has_link, users_of, sides_over, common_steps}
 use Rattle.fair_laws.proofs.Common.{range_with_len, length-range_with_len, get_or-range_with_len, in_get, get_in}
-use Rattle.fair_laws.proofs.Common.{get_from_map, place_here, passes_here, below_length, rates_at}
+use Rattle.fair_laws.proofs.Common.{get_from_map, place_here, passes_here, below_length}
 use Rattle.std.specs.List.Sorted.{IsPermutation}
 use Rattle.std.proofs.lemmas.List.{same_lists}
 use Rattle.std.proofs.lemmas.List.Sorted.{sum_by-IsPermutation, Contains-permutation, All-permutation}
@@ -28,9 +28,7 @@ pub sum_at : {X : Type 0} (g : ℕ → ℕ) (test : X → Bool) (route : ℕ →
     → sum_by (λ u. g (get_or order u 0)) (places_from 0 test (map route order))
     ≡ sum_by (λ i. cond (test (route i)) (g i) 0) order
 sum_at g test route [] = refl
-sum_at {X} g test route (i ∷ order) =
-    by_test (test (route i)) refl (shifted (λ u. g (get_or (i ∷ order) u 0)) 0 test (map route order)
-    ∙ sum_at g test route order)
+sum_at {X} g test route (i ∷ order) = by_test _ refl (shifted _ 0 test _ ∙ sum_at g test route order)
   where
     rest : List ℕ
     rest = places_from 1 test (map route order)
@@ -56,9 +54,7 @@ sum_at {X} g test route (i ∷ order) =
 -- each place of a list in turn
 from_range : {X : Type 0} (d : X) (xs : List X) → map (λ i. get_or xs i d) (range_with_len 0 (length xs)) ≡ xs
 from_range d xs =
-    same_lists (map (λ i. get_or xs i d) (range_with_len 0 (length xs))) xs
-    (length-map (range_with_len 0 (length xs)) (λ i. get_or xs i d) ∙ length-range_with_len 0 (length xs))
-    (λ k e inside.
+    same_lists _ xs (length-map _ _ ∙ length-range_with_len 0 (length xs)) (λ k e inside.
     let lt : k < length xs =
     omega (arith, inside, length-map (range_with_len 0 (length xs)) (λ i. get_or xs i d), length-range_with_len 0 (length xs)) in
     let at : get_or (range_with_len 0 (length xs)) k 0 ≡ k = get_or-range_with_len 0 (length xs) k 0 lt ∙ (omega arith) in
@@ -182,15 +178,13 @@ the_order_of_flows_does_not_matter caps routes rates order permuted fair =
     let news = sides_over caps (routes_at routes order) in
     let place : ℕ → ℕ = λ flow. get_or order flow 0 in
     record {
-      one_each = length-map order (λ i. get_or rates i Unlimited);
+      one_each = length-map order _;
       per = fair.per;
-      parts = λ flow. fair.parts (get_or order flow 0);
+      parts = λ flow. fair.parts _;
       fair = relabelled_fair place flows olds news are fair.per fair.parts fair.fair;
       rated = λ flow d lt.
-          let at = get_or-map (λ i. get_or rates i Unlimited) order flow 0 d lt in
+          let at = get_or-map _ order flow 0 d lt in
           let there = inside caps routes order permuted flow 0 lt in
-          relabelled_rate place flows olds news are fair.per fair.parts fair.fair flow
-          (get_or (rates_at rates order) flow d) lt
-          (subst (IsRateOf olds fair.per fair.parts (get_or order flow 0)) (sym at)
-          (fair.rated (get_or order flow 0) Unlimited there));
+          relabelled_rate place flows olds news are fair.per fair.parts fair.fair flow _ lt
+          (subst (IsRateOf olds fair.per fair.parts (get_or order flow 0)) (sym at) (fair.rated _ Unlimited there));
     }

@@ -1,6 +1,6 @@
 -- Planned worlds that are the same up to equal peers are in order alike.
-use Rattle.link_simulation.proofs.Common.{arith, ◌∙◌, SameMessage, IsSameRatedFlight, List, Ordering, IsTotalOrder}
-use Rattle.link_simulation.proofs.Common.{Completed, Call, Planned, rated_messages, IsSamePlanned, GoesByRule, IsOrderly}
+use Rattle.link_simulation.proofs.Common.{arith, ◌∙◌, SameMessage, IsSameRatedFlight, Ordering, IsTotalOrder, Completed}
+use Rattle.link_simulation.proofs.Common.{List, Call, Planned, rated_messages, IsSamePlanned, GoesByRule, IsOrderly}
 use Rattle.link_simulation.proofs.Laws.Orderly.{obeys_orderly}
 use Rattle.link_simulation.proofs.Rule.SamePlanned.{pairs_turned, pairs_chain, caps_turned, caps_chain}
 use Rattle.link_simulation.proofs.Rule.SameSteps.{none_same, flows_same}

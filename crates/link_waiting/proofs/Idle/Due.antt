@@ -79,8 +79,7 @@ module _ {P : Type 0} (now : ℕ) (sinces : List (Option ℕ)) (ws : List (Waite
       count_first : (pair : ℕ) (passes : Bool) → ((w : Waiter P) → find (has_pair pair) ws ≡ Some w → test w ≡ passes)
           → count_by test (first_due pair (is_due pair)) ≡ cond passes (cond (is_due pair) 1 0) 0
       count_first pair passes same =
-          by (is_due pair) passes (find (has_pair pair) ws)
-          (λ is e. let no : true ≡ false = sym is ∙ ap (has_come now) (told.only pair e) in cc) same
+          by _ passes _ (λ is e. let no : true ≡ false = sym is ∙ ap (has_come now) (told.only pair e) in cc) same
         where
           by : (b passes : Bool) (found : Option (Waiter P)) → (b ≡ true → found ≡ None → ⊥)
               → ((w : Waiter P) → found ≡ Some w → test w ≡ passes)

@@ -67,14 +67,10 @@ module _ {K : Type 0} (cmp : K → K → Ordering) (total : IsTotalOrder cmp) wh
 
     pub rising_sorted : (xs : List A) → IsSortedBy (λ x y. is_lt (cmp (key x) (key y))) xs → is_rising xs ≡ true
     rising_sorted [] h = refl
-    rising_sorted (x ∷ xs) h = and_from _ _
-        (all_from_within (λ y. not (is_lt (cmp (key y) (key x)))) xs
-        (λ i d low high. ap not
-        (sorted_far (λ x y. is_lt (cmp (key x) (key y))) (ranks_by total key) (x ∷ xs) h 0 (suc i) d (omega arith)
-        (omega arith))))
-        (rising_sorted xs
-        (λ k d low high. ap (λ n. is_lt (cmp (key (get_or (x ∷ xs) n d)) (key (get_or xs k d)))) (shifted k)
-        ∙ h (suc k) d (omega arith) (omega arith)))
+    rising_sorted (x ∷ xs) h = and_from _ _ (all_from_within _ xs (λ i d low high. ap not
+        (sorted_far (λ x y. is_lt _) (ranks_by total key) (x ∷ xs) h 0 (suc i) d (omega arith) (omega arith))))
+        (rising_sorted xs (λ k d low high. ap (λ n. is_lt (cmp (key (get_or (x ∷ xs) n d)) (key (get_or xs k d))))
+        (shifted k) ∙ h (suc k) d (omega arith) (omega arith)))
       where
         shifted : (k : ℕ) → suc (k + 1) ≡ suc k + 1
         shifted k = omega arith
@@ -95,10 +91,8 @@ module _ {K : Type 0} (cmp : K → K → Ordering) (total : IsTotalOrder cmp) wh
     none_less : (x : A) (xs : List A) (q : K) → is_rising (x ∷ xs) ≡ true → cmp (key x) q ≡ Greater
         → of_key q (x ∷ xs) ≡ 0
     none_less x xs q h above = none_many (λ y. is_eq (cmp (key y) q)) (x ∷ xs)
-        (and_from _ _ (ap (λ o. not (is_eq o)) above)
-        (list_all-mono (λ y. not (is_lt (cmp (key y) (key x)))) (λ y. not (is_eq (cmp (key y) q)))
-        (λ y from. not_equal x y q above from) xs
-        (first_of_both (list_all (λ y. not (is_lt (cmp (key y) (key x)))) xs) _ h)))
+        (and_from _ _ (ap (λ o. not (is_eq o)) above) (list_all-mono _ _ (λ y from. not_equal x y q above from) xs
+        (first_of_both _ _ h)))
 
     some_own : (x : A) (xs : List A) → of_key (key x) (x ∷ xs) ≡ suc (of_key (key x) xs)
     some_own x xs = ap (λ o. if is_eq o then suc (of_key (key x) xs) else of_key (key x) xs) (tied_itself total (key x))
@@ -110,9 +104,8 @@ module _ {K : Type 0} (cmp : K → K → Ordering) (total : IsTotalOrder cmp) wh
     rising_same [] [] rise_x rise_y same = tt
     rising_same [] (y ∷ ys) rise_x rise_y same = absurd (omega (arith, same (g y), some_own g y ys))
     rising_same (x ∷ xs) [] rise_x rise_y same = absurd (omega (arith, same (f x), some_own f x xs))
-    rising_same (x ∷ xs) (y ∷ ys) rise_x rise_y same = by_order (cmp (f x) (g y)) refl
-        (rising_same xs ys (second_of_both (list_all (λ z. not (is_lt (cmp (f z) (f x)))) xs) _ rise_x)
-        (second_of_both (list_all (λ z. not (is_lt (cmp (g z) (g y)))) ys) _ rise_y))
+    rising_same (x ∷ xs) (y ∷ ys) rise_x rise_y same = by_order _ refl (rising_same xs ys (second_of_both _ _ rise_x)
+        (second_of_both _ _ rise_y))
       where
         same_rest : (b : Bool) (m n : ℕ) → (if b then suc m else m) ≡ (if b then suc n else n) → m ≡ n
         same_rest true m n e = omega (arith, e)
@@ -120,9 +113,8 @@ module _ {K : Type 0} (cmp : K → K → Ordering) (total : IsTotalOrder cmp) wh
 
         step : cmp (f x) (g y) ≡ Equal → (q : K) → of_key f q xs ≡ of_key g q ys
         step is q =
-            same_rest (is_eq (cmp (g y) q)) (of_key f q xs) (of_key g q ys)
-            (ap (λ o. if is_eq o then suc (of_key f q xs) else of_key f q xs) (sym (total.congr (f x) (g y) q is))
-            ∙ same q)
+            same_rest _ (of_key f q xs) _ (ap (λ o. if is_eq o then suc (of_key f q xs) else of_key f q xs)
+            (sym (total.congr (f x) (g y) q is)) ∙ same q)
 
         by_order : (o : Ordering) → cmp (f x) (g y) ≡ o
             → (((q : K) → of_key f q xs ≡ of_key g q ys) → AllZip (λ x y. cmp (f x) (g y) ≡ Equal) xs ys)

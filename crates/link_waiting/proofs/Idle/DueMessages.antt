@@ -3,7 +3,7 @@ use Rattle.link_waiting.proofs.Common.{◌≡◌, ℕ, suc, Bool, true, false, n
 use Rattle.link_waiting.proofs.Common.{map, Option, Some, None, refl, sym, ◌∙◌, ap, ap₂, nat_le, AllZip, filter, find}
 use Rattle.link_waiting.proofs.Common.{list_any, Ordering, Less, Equal, Greater, is_lt, is_eq, ordering_reverse}
 use Rattle.link_waiting.proofs.Common.{IsTotalOrder, and_from, by_bool, first_of_both, second_of_both, PeerPair}
-use Rattle.link_waiting.proofs.Common.{same_peer, Message, PairsAlike, same_pair, pair_before, Planned, AreInPairOrder}
+use Rattle.link_waiting.proofs.Common.{same_peer, Message, PairsAlike, same_pair, Planned, AreInPairOrder}
 use Rattle.link_waiting.proofs.Common.{may_launch, idle_from, IsIndexOf, has_come, NamesPairOf, first_moment, pair_cmp}
 use Rattle.link_waiting.proofs.Common.{first_of, may_launch_first, is_sending, pair_like, pair_sym, pair_total}
 use Rattle.link_waiting.proofs.Common.{list_all, are_ascending, pair_of_key, is_eq-then}
@@ -50,29 +50,20 @@ module _ {P : Type 0} (cmp : P → P → Ordering) (order : IsTotalOrder cmp) wh
       → is_rising (pair_cmp cmp) (pair_total cmp order) message_pair (filter t ms) ≡ true
   rising_filter t [] h = refl
   rising_filter t (m ∷ ms) h =
-      let all : list_all (λ n. not (is_lt (pair_cmp cmp (message_pair n) (message_pair m)))) ms ≡ true =
-      first_of_both _ _ h in
-      by_bool (t m)
-      (λ is. rw is
-      (and_from _ _ (all_filtered (λ n. not (is_lt (pair_cmp cmp (message_pair n) (message_pair m)))) t ms all)
-      (rising_filter t ms (second_of_both _ _ h))))
+      let all : list_all (λ n. not _) ms ≡ true = first_of_both _ _ h in
+      by_bool (t m) (λ is. rw is (and_from _ _ (all_filtered _ t ms all) (rising_filter t ms (second_of_both _ _ h))))
       (λ is. rw is (rising_filter t ms (second_of_both _ _ h)))
 
   all_fronts : (q : Message P → Bool) (ms : List (Message P)) → list_all q ms ≡ true → list_all q (fronts cmp ms) ≡ true
   all_fronts q [] h = refl
   all_fronts q (m ∷ ms) h =
-      and_from (q m) _ (first_of_both (q m) _ h)
-      (all_filtered q (λ n. not (same_pair cmp m n)) (fronts cmp ms) (all_fronts q ms (second_of_both (q m) _ h)))
+      and_from (q m) _ (first_of_both (q m) _ h) (all_filtered q _ _ (all_fronts q ms (second_of_both (q m) _ h)))
 
   rising_fronts : (ms : List (Message P)) → AreInPairOrder cmp ms
       → is_rising (pair_cmp cmp) (pair_total cmp order) message_pair (fronts cmp ms) ≡ true
   rising_fronts [] h = refl
-  rising_fronts (m ∷ ms) h = and_from _ _
-      (all_filtered (λ n. not (is_lt (pair_cmp cmp (message_pair n) (message_pair m)))) (λ n. not (same_pair cmp m n))
-      (fronts cmp ms)
-      (all_fronts (λ n. not (is_lt (pair_cmp cmp (message_pair n) (message_pair m)))) ms
-      (all_not (λ n. pair_before cmp n m) ms h.0)))
-      (rising_filter (λ n. not (same_pair cmp m n)) (fronts cmp ms) (rising_fronts ms h.1))
+  rising_fronts (m ∷ ms) h = and_from _ _ (all_filtered (λ n. not _) (λ n. not _) (fronts cmp ms)
+      (all_fronts _ ms (all_not _ ms h.0))) (rising_filter (λ n. not _) _ (rising_fronts ms h.1))
 
   -- ---- how many keys name a pair
 
@@ -93,11 +84,9 @@ module _ {P : Type 0} (cmp : P → P → Ordering) (order : IsTotalOrder cmp) wh
         → of_key (pair_cmp cmp) (pair_total cmp order) key_pair (a, b) keys ≡ one_if (list_any names keys)
     ascending_once [] h = refl
     ascending_once (k ∷ keys) h =
-        let above : list_all (λ l. is_lt (pair_cmp cmp (pair_of_key k) l)) (map pair_of_key keys) ≡ true =
-        first_of_both _ _ h in
-        let rest = ascending_once keys (second_of_both (list_all (λ l. is_lt (pair_cmp cmp (pair_of_key k) l)) (map pair_of_key keys)) _ h) in
-        by_bool (names k)
-        (λ is. rw (names_is k ∙ is, is) (ap suc (none_again keys (names_is k ∙ is) above)))
+        let above : list_all (λ l. is_lt _) (map pair_of_key keys) ≡ true = first_of_both _ _ h in
+        let rest = ascending_once keys (second_of_both _ _ h) in
+        by_bool (names k) (λ is. rw (names_is k ∙ is, is) (ap suc (none_again keys (names_is k ∙ is) above)))
         (λ is. rw (names_is k ∙ is, is) rest)
       where
         none_again : (ls : List (PeerPair P)) → of_pair_key k ≡ true
@@ -106,13 +95,12 @@ module _ {P : Type 0} (cmp : P → P → Ordering) (order : IsTotalOrder cmp) wh
         none_again [] is above = refl
         none_again (l ∷ ls) is above =
             let lower : is_lt (pair_cmp cmp (pair_of_key k) (pair_of_key l)) ≡ true = first_of_both _ _ above in
-            let other : of_pair_key l ≡ false = by_bool (of_pair_key l)
+            let other : of_pair_key l ≡ false = by_bool _
             (λ same. let equal = (pair_total cmp order).congr (pair_of_key k) (a, b) (pair_of_key l) (is_eq_equal _ is) in
             let turned = tied_back (pair_total cmp order) (pair_of_key l) (a, b) (is_eq_equal _ same) in
             let no : true ≡ false = sym lower ∙ ap is_lt (equal ∙ turned) in
-            absurd (true≢false no))
-            (λ apart. apart) in
-            rw other (none_again ls is (second_of_both (is_lt (pair_cmp cmp (pair_of_key k) (pair_of_key l))) _ above))
+            absurd (true≢false no)) (λ apart. apart) in
+            rw other (none_again ls is (second_of_both _ _ above))
 
     -- ---- how many messages that may start are of a pair
 
@@ -123,8 +111,7 @@ module _ {P : Type 0} (cmp : P → P → Ordering) (order : IsTotalOrder cmp) wh
     sought m = same_peer cmp a m.origin && same_peer cmp b m.recipient
 
     of_is : (m : Message P) → of_message m ≡ sought m
-    of_is m =
-        is_eq-then (cmp m.origin a) (cmp m.recipient b) ∙ pair_sym cmp order m (record m { origin = a; recipient = b })
+    of_is m = is_eq-then _ _ ∙ pair_sym cmp order m (record m { origin = a; recipient = b })
 
     abbrev passes : (Message P → Bool) → Option (Message P) → Bool
     passes may None = false

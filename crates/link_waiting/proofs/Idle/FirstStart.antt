@@ -32,11 +32,8 @@ module _ {P : Type 0} (cmp : P → P → Ordering) where
   pub idle_is : (p : Planned P) (o r : P) (m : Message P) → is_sending cmp p o r ≡ false
       → first_of cmp p.waiting o r ≡ Some m → idle_from cmp p o r ≡ Some (first_moment (p.last_arrival o r) m.latency)
   idle_is p o r m free first =
-      ap
-      (λ (b : Bool). if b then None else option_map (λ (m : Message P). first_moment (p.last_arrival o r) m.latency)
-      (first_of cmp p.waiting o r))
-      free
-      ∙ ap (option_map (λ (m : Message P). first_moment (p.last_arrival o r) m.latency)) first
+      ap (λ (b : Bool). if b then None else option_map (λ (m : Message P). first_moment (p.last_arrival o r) m.latency)
+      (first_of cmp p.waiting o r)) free ∙ ap (option_map _) first
 
   -- a message that may start is the first of a pair that is idle from no later moment on
   pub launches_idle : (p : Planned P) (s : ℕ) (m : Message P) → next_of cmp p m ≡ Some m → may_launch cmp s p m ≡ true
@@ -66,21 +63,17 @@ module _ {P : Type 0} (cmp : P → P → Ordering) where
     pub may_from : (o r : P) (m : Message P) → first_of cmp p.waiting o r ≡ Some m → (s : ℕ)
         → (not (is_sending cmp p o r) && nat_le (first_moment (p.last_arrival o r) m.latency) s) ≡ may_launch cmp s p m
     may_from o r m found s =
-        may_launch_is cmp order p s o r m (is_sending cmp p o r)
-        (nat_le (first_moment (p.last_arrival o r) m.latency) s) alike found refl refl
-        ∙ ap (may_launch_first cmp s p) found
+        may_launch_is cmp order p s o r m _ _ alike found refl refl ∙ ap (may_launch_first cmp s p) found
 
     -- from its moment on an idle pair is ready
     pub idle_ready : (o r : P) (t s : ℕ) → idle_from cmp p o r ≡ Some t → t ≤ s → SomeReadyAt cmp p s
     idle_ready o r t s is le =
         let i : IsIdleFrom p o r t = idle_parts p o r t is in
         let late : first_moment (p.last_arrival o r) i.message.latency ≤ s = omega (arith, i.moment) in
-        let may : may_launch cmp s p i.message ≡ true =
-        sym (may_from o r i.message i.first s)
-        ∙ (λ j. not (i.free j) && le-leb (first_moment (p.last_arrival o r) i.message.latency) s late j) in
-        let same : (same_peer cmp o i.message.origin && same_peer cmp r i.message.recipient) ≡ true =
-        find_passes (λ (n : Message P). same_peer cmp o n.origin && same_peer cmp r n.recipient) i.message p.waiting
-        i.first in
+        let may : may_launch cmp s p i.message ≡ true = sym (may_from o r i.message i.first s) ∙
+        (λ j. not (i.free j) && le-leb _ s late j) in
+        let same : (same_peer cmp o i.message.origin && same_peer cmp r i.message.recipient) ≡ true = find_passes _
+        i.message p.waiting i.first in
         let next : next_of cmp p i.message ≡ Some i.message =
         (λ j. find (λ (n : Message P). of_pair cmp order o r i.message same n j) p.waiting) ∙ i.first in
         (i.message, next, may)

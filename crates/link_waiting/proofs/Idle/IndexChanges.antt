@@ -41,12 +41,8 @@ module _ {P : Type 0} (cmp : P → P → Ordering) where
     pub link_none : (p : Planned P) (o r : P) (es : P → P → Option ℕ) → PairsAlike cmp p.last_arrival p.last_arrival
         → IsIndexOf cmp p es → idle_from cmp p o r ≡ None → es ≡ with_link cmp es o r None
     link_none p o r es alike index none = fun_ext (λ a. fun_ext (λ b. by_bool (same_two cmp o r a b)
-        (λ h. rw h
-        (index a b
-        ∙ sym (idle_respects cmp order p alike o r a b (first_of_both (same_peer cmp o a) _ h)
-        (second_of_both (same_peer cmp o a) _ h))
-        ∙ none))
-        (λ h. rw h refl)))
+        (λ h. rw h (index a b ∙ sym (idle_respects cmp order p alike o r a b (first_of_both (same_peer cmp o a) _ h)
+        (second_of_both _ _ h)) ∙ none)) (λ h. rw h refl)))
 
     -- ---- from one world to another
 
@@ -57,9 +53,7 @@ module _ {P : Type 0} (cmp : P → P → Ordering) where
         → ((a b : P) → same_two cmp o r a b ≡ false → idle_from cmp q a b ≡ idle_from cmp p a b) → IsIndexOf cmp p old
         → new ≡ with_link cmp old o r (idle_from cmp q o r) → IsIndexOf cmp q new
     follows p q o r old new alike others index changed a b = ap (λ f. f a b) changed ∙ by_bool (same_two cmp o r a b)
-        (λ h. rw h
-        (idle_respects cmp order q alike o r a b (first_of_both (same_peer cmp o a) _ h)
-        (second_of_both (same_peer cmp o a) _ h)))
+        (λ h. rw h (idle_respects cmp order q alike o r a b (first_of_both _ _ h) (second_of_both _ _ h)))
         (λ h. rw h (index a b ∙ sym (others a b h)))
 
     -- where no pair may start from another moment on, the index stays
@@ -147,8 +141,7 @@ module _ {P : Type 0} (cmp : P → P → Ordering) where
             (cond (not (spent f)) (f ∷ filter (λ g. not (spent g)) fs) (filter (λ g. not (spent g)) fs)))
             ≡ (u f.message || list_any u (rated_messages fs))
         by_test true is none ih =
-            let parts : (u f.message ≡ false) × (list_any u (rated_messages (filter spent fs)) ≡ false) =
-            or_parts (u f.message) (list_any u (rated_messages (filter spent fs))) none in
+            let parts : (u f.message ≡ false) × (list_any u _ ≡ false) = or_parts _ _ none in
             rw (is, parts.0) (ih parts.1)
         by_test false is none ih = rw is (ap (λ c. u f.message || c) (ih none))
 
@@ -171,24 +164,20 @@ module _ {P : Type 0} (cmp : P → P → Ordering) (order : IsTotalOrder cmp) (q
   module _ (done : List (Message P)) (m : Message P) (es : P → P → Option ℕ) (so : AreAtRest cmp q done old es) where
     -- what the rest says of the pair of the message
     own : (a b : P) → is_of_pair cmp a b m ≡ true → idle_from cmp q a b ≡ idle_from cmp q m.origin m.recipient
-    own a b h =
-        idle_respects cmp order q alike a b m.origin m.recipient (first_of_both (same_peer cmp a m.origin) _ h)
-        (second_of_both (same_peer cmp a m.origin) _ h)
+    own a b h = idle_respects cmp order q alike a b m.origin m.recipient (first_of_both _ _ h) (second_of_both _ _ h)
 
     more_true : (a b : P) → is_of_pair cmp a b m ≡ true → list_any (is_of_pair cmp a b) (done ++ m ∷ []) ≡ true
     more_true a b h = any_more (is_of_pair cmp a b) done m ∙ rw h (or-true (list_any (is_of_pair cmp a b) done))
 
     more_false : (a b : P) → is_of_pair cmp a b m ≡ false
         → list_any (is_of_pair cmp a b) (done ++ m ∷ []) ≡ list_any (is_of_pair cmp a b) done
-    more_false a b h =
-        any_more (is_of_pair cmp a b) done m ∙ or_else (is_of_pair cmp a b m) (list_any (is_of_pair cmp a b) done) h
+    more_false a b h = any_more _ done m ∙ or_else _ _ h
 
     -- from when on the next one may start is told
     pub rests_more : (new : P → P → Option ℕ)
         → new ≡ with_link cmp es m.origin m.recipient (idle_from cmp q m.origin m.recipient)
         → AreAtRest cmp q (done ++ m ∷ []) old new
-    rests_more new told a b = ap (λ f. f a b) told ∙ by_bool (is_of_pair cmp a b m)
-        (λ h. rw (more_true a b h, turned ∙ h) (sym (own a b h)))
+    rests_more new told a b = ap (λ f. f a b) told ∙ by_bool _ (λ h. rw (more_true a b h, turned ∙ h) (sym (own a b h)))
         (λ h. rw (more_false a b h, turned ∙ h) (so a b))
       where
         turned : same_two cmp m.origin m.recipient a b ≡ is_of_pair cmp a b m
@@ -235,13 +224,11 @@ module _ {P : Type 0} (cmp : P → P → Ordering) (order : IsTotalOrder cmp) wh
       let q : Planned P = of_pairs cmp others ms sending in
       let same : q ≡ record p { last_arrival = raised_at cmp p.last_arrival o r at } = λ i.
       record p { last_arrival = raised i } in
-      stays_index cmp order p q es (λ a b. by_bool (same_two cmp o r a b)
-      (λ h.
-      let first = first_of_both (same_peer cmp o a) _ h in
-      let second = second_of_both (same_peer cmp o a) _ h in
-      sym (idle_respects cmp order q alike o r a b first second) ∙ is ∙ sym was
-      ∙ idle_respects cmp order p was_alike o r a b first second)
-      (λ h. ap (λ (w : Planned P). idle_from cmp w a b) same ∙ raised_else cmp p o r at a b h))
+      stays_index cmp order p q es (λ a b. by_bool _ (λ h.
+      let first = first_of_both _ _ h in
+      let second = second_of_both _ _ h in
+      sym (idle_respects cmp order q alike o r a b first second) ∙ is ∙ sym was ∙ idle_respects cmp order p was_alike o
+      r a b first second) (λ h. ap (λ (w : Planned P). idle_from cmp w a b) same ∙ raised_else cmp p o r at a b h))
       index
 
   -- where no last arrival is another, the index stays
@@ -297,16 +284,13 @@ module _ {P : Type 0} (cmp : P → P → Ordering) (order : IsTotalOrder cmp) wh
       let own : same_two cmp m.origin m.recipient m.origin m.recipient ≡ true =
       and_from (same_peer cmp m.origin m.origin) (same_peer cmp m.recipient m.recipient)
       (same_peer_itself cmp order m.origin) (same_peer_itself cmp order m.recipient) in
-      stays_index cmp order p q es (λ a b. by_bool (same_two cmp m.origin m.recipient a b)
-      (λ h.
-      let first = first_of_both (same_peer cmp m.origin a) _ h in
-      let second = second_of_both (same_peer cmp m.origin a) _ h in
-      sym (idle_respects cmp order q alike m.origin m.recipient a b first second)
-      ∙ busy_none cmp q m.origin m.recipient busy ∙ sym (busy_none cmp p m.origin m.recipient busy)
-      ∙ idle_respects cmp order p alike m.origin m.recipient a b first second)
-      (λ h. ap (λ (w : Planned P). idle_from cmp w a b) same
-      ∙ queued_else cmp order m.origin m.recipient a b h p m own))
-      index
+      stays_index cmp order p q es (λ a b. by_bool _ (λ h.
+      let first = first_of_both _ _ h in
+      let second = second_of_both _ _ h in
+      sym (idle_respects cmp order q alike m.origin m.recipient a b first second) ∙ busy_none cmp q m.origin m.recipient
+      busy ∙ sym (busy_none cmp p m.origin m.recipient busy) ∙ idle_respects cmp order p alike m.origin m.recipient a b
+      first second) (λ h. ap (λ (w : Planned P). idle_from cmp w a b) same ∙ queued_else cmp order m.origin m.recipient
+      a b h p m own)) index
 
   -- a message of a pair of which none waits is in flight: no idle pair is another
   pub started_index : (pairs : List (Pair P)) (ms : List (Message P)) (sending after : List (RatedFlight P))
@@ -319,30 +303,23 @@ module _ {P : Type 0} (cmp : P → P → Ordering) (order : IsTotalOrder cmp) wh
       let q : Planned P = of_pairs cmp pairs ms after in
       let o : P = f.message.origin in
       let r : P = f.message.recipient in
-      let own : same_two cmp o r o r ≡ true =
-      and_from (same_peer cmp o o) (same_peer cmp r r) (same_peer_itself cmp order o)
-      (same_peer_itself cmp order r) in
-      stays_index cmp order p q es (λ a b. by_bool (same_two cmp o r a b)
-      (λ h.
-      let first = first_of_both (same_peer cmp o a) _ h in
-      let second = second_of_both (same_peer cmp o a) _ h in
-      sym (idle_respects cmp order q alike o r a b first second) ∙ none_idle q alone ∙ sym (none_idle p alone)
-      ∙ idle_respects cmp order p alike o r a b first second)
-      (λ h. alike_from cmp p q a b
-      (ap (λ l. list_any (is_of_pair cmp a b) (rated_messages l)) pushed
-      ∙ sends_more cmp order o r a b h sending f own)
-      refl refl))
-      index
+      let own : same_two cmp o r o r ≡ true = and_from (same_peer cmp o o) (same_peer cmp r r)
+      (same_peer_itself cmp order o) (same_peer_itself cmp order r) in
+      stays_index cmp order p q es (λ a b. by_bool _ (λ h.
+      let first = first_of_both _ _ h in
+      let second = second_of_both _ _ h in
+      sym (idle_respects cmp order q alike o r a b first second) ∙ none_idle q alone ∙ sym (none_idle p alone) ∙
+      idle_respects cmp order p alike o r a b first second) (λ h. alike_from cmp p q a b
+      (ap (λ l. list_any (is_of_pair cmp a b) (rated_messages l)) pushed ∙ sends_more cmp order o r a b h sending f own)
+      refl refl)) index
     where
       none_idle : (w : Planned P) → first_of cmp w.waiting f.message.origin f.message.recipient ≡ None
           → idle_from cmp w f.message.origin f.message.recipient ≡ None
       none_idle w none =
-          ap
-          (λ (first : Option (Message P)). if is_sending cmp w f.message.origin f.message.recipient then None else
-          option_map
-          (λ (m : Message P). first_moment (w.last_arrival f.message.origin f.message.recipient) m.latency) first)
-          none
-          ∙ by_bool (is_sending cmp w f.message.origin f.message.recipient) (λ t. rw t refl) (λ t. rw t refl)
+          ap (λ (first : Option (Message P)). if is_sending cmp w f.message.origin f.message.recipient then None else
+          option_map (λ (m : Message P). first_moment (w.last_arrival f.message.origin f.message.recipient) m.latency)
+          first) none ∙ by_bool (is_sending cmp w f.message.origin f.message.recipient) (λ t. rw t refl)
+          (λ t. rw t refl)
 
   -- the first message of a pair is in flight: the pair is idle no more
   pub departed_index : (pairs : List (Pair P)) (ms ns : List (Message P)) (sending after : List (RatedFlight P))
@@ -359,25 +336,20 @@ module _ {P : Type 0} (cmp : P → P → Ordering) (order : IsTotalOrder cmp) wh
       let same : q
       ≡ record p {
         sending = p.sending ++ f ∷ [];
-        waiting = without_first (λ (n : Message P). same_peer cmp o n.origin && same_peer cmp r n.recipient)
-            p.waiting;
+        waiting = without_first (λ (n : Message P). same_peer cmp o n.origin && same_peer cmp r n.recipient) p.waiting;
         next_id = 0;
       } =
       λ i. record p { sending = pushed i; waiting = taken i } in
       let flies : is_sending cmp q o r ≡ true =
       ap (λ l. list_any (is_of_pair cmp o r) (rated_messages l)) pushed ∙ last_flies sending in
-      let none : idle_from cmp q o r ≡ None =
-      ap
-      (λ (c : Bool). if c then None else option_map
-      (λ (m : Message P). first_moment (q.last_arrival o r) m.latency) (first_of cmp q.waiting o r))
-      flies in
-      follows cmp order p q o r es new alike
-      (λ a b apart. ap (λ (w : Planned P). idle_from cmp w a b) same ∙ pushed_else cmp order o r a b apart p f 0 own)
-      index (changed ∙ ap (with_link cmp es o r) (sym none))
+      let none : idle_from cmp q o r ≡ None = ap (λ (c : Bool). if c then None else option_map
+      (λ (m : Message P). first_moment (q.last_arrival o r) m.latency) (first_of cmp q.waiting o r)) flies in
+      follows cmp order p q o r es new alike (λ a b apart. ap (λ (w : Planned P). idle_from cmp w a b) same ∙
+      pushed_else cmp order o r a b apart p f 0 own) index (changed ∙ ap (with_link cmp es o r) (sym none))
     where
       last_flies : (fs : List (RatedFlight P)) → list_any (is_of_pair cmp o r) (rated_messages (fs ++ f ∷ [])) ≡ true
-      last_flies [] = or_left (is_of_pair cmp o r f.message) false own
-      last_flies (g ∷ fs) = rw (last_flies fs) (or-true (is_of_pair cmp o r g.message))
+      last_flies [] = or_left _ false own
+      last_flies (g ∷ fs) = rw (last_flies fs) (or-true _)
 
 pub flows_drained : {P : Type 0} (t : ℕ) (fs : List (RatedFlight P))
     → rated_messages (drained_to t fs) ≡ rated_messages fs

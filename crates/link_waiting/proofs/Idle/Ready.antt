@@ -55,9 +55,8 @@ module _ {P : Type 0} (cmp : P → P → Ordering) (total : IsTotalOrder cmp) wh
           let names : PeerPair P → ℕ
           = λ key. cond (same_peer cmp j.origin key.origin && same_peer cmp j.recipient key.recipient) 1 0 in
           let one = sum_by-cons names j (k ∷ keys) ∙ ap (λ b. cond b 1 0 + sum_by names (k ∷ keys)) (same_key j) in
-          let two = sum_by-cons names k keys
-          ∙ ap (λ b. cond b 1 0 + sum_by names keys)
-          (sym (is_eq-then (cmp j.origin k.origin) (cmp j.recipient k.recipient)) ∙ ap is_eq e) in
+          let two = sum_by-cons names k keys ∙ ap (λ b. cond b 1 0 + sum_by names keys)
+          (sym (is_eq-then (cmp j.origin k.origin) _) ∙ ap is_eq e) in
           absurd (omega (arith, one, two, few j.origin j.recipient))
       by Greater e =
           let up : pair_cmp cmp (pair_of_key k) (pair_of_key j) ≡ Less =
@@ -76,10 +75,7 @@ module _ {P : Type 0} (cmp : P → P → Ordering) (total : IsTotalOrder cmp) wh
       let rest : are_ascending (pair_cmp cmp) (map pair_of_key (k ∷ keys)) ≡ true =
       ascends (k ∷ keys) (sorted_behind j (k ∷ keys) sorted) (few_behind j (k ∷ keys) few) in
       let less = next_above j k keys sorted few in
-      and_from _ _
-      (and_from _ _ less
-      (list_all-mono (λ l. is_lt (pair_cmp cmp (pair_of_key k) l)) (λ l. is_lt (pair_cmp cmp (pair_of_key j) l))
-      (λ l h. less_still (pair_of_key j) (pair_of_key k) l less h) (map pair_of_key keys) (first_of_both _ _ rest)))
+      and_from _ _ (and_from _ _ less (list_all-mono _ _ (λ l h. less_still _ _ l less h) _ (first_of_both _ _ rest)))
       rest
 
 module _ {P : Type 0} (cmp : P → P → Ordering) (order : IsTotalOrder cmp) (pairs : List (P × P)) (now : ℕ)
@@ -97,9 +93,8 @@ module _ {P : Type 0} (cmp : P → P → Ordering) (order : IsTotalOrder cmp) (p
         let w : Waiter P = first.0 in
         let o = w.message.origin in
         let r = w.message.recipient in
-        let number : number_of_pair cmp pairs o r ≡ Some w.pair =
-        each_find (λ w. number_of_pair cmp pairs w.message.origin w.message.recipient ≡ Some w.pair) (has_pair due.0) ws w
-        (each_of_all _ ws numbered) first.1 in
+        let number : number_of_pair cmp pairs o r ≡ Some w.pair = each_find (λ w. number_of_pair cmp pairs
+        w.message.origin w.message.recipient ≡ Some w.pair) (has_pair due.0) ws w (each_of_all _ ws numbered) first.1 in
         let same : w.pair ≡ due.0 = eqb-true w.pair due.0 (find_passes (has_pair due.0) w ws first.1) in (
           o,
           r,
@@ -114,7 +109,7 @@ module _ {P : Type 0} (cmp : P → P → Ordering) (order : IsTotalOrder cmp) (p
       by : (number : Option ℕ) → has_come now (option_and_then (moment_at sinces) number) ≡ true
           → (at : ℕ) × IsDue sinces now at
       by None e = cc
-      by (Some at) e = (at, has_come_if now (moment_at sinces at) e)
+      by (Some at) e = (at, has_come_if now _ e)
 
   -- ---- the keys
 
@@ -141,9 +136,8 @@ module _ {P : Type 0} (cmp : P → P → Ordering) (order : IsTotalOrder cmp) (p
   count_named o r [] (w ∷ us) z = absurd z
   count_named o r (key ∷ keys) [] z = absurd z
   count_named o r (key ∷ keys) (w ∷ us) z =
-      sum_by-cons (λ k. cond (names o r k) 1 0) key keys
-      ∙ ap₂ (λ a b. a + b) (ap (λ b. cond b 1 0) (one_named o r key w z.0)) (count_named o r keys us z.1)
-      ∙ sym (sum_by-cons (λ w. cond (is_of cmp o r w) 1 0) w us)
+      sum_by-cons _ key keys ∙ ap₂ (λ a b. a + b) (ap (λ b. cond b 1 0) (one_named o r key w z.0))
+      (count_named o r keys us z.1) ∙ sym (sum_by-cons _ w us)
 
   module _ (o r : P) (keys all : List (PeerPair P)) (same : IsPermutation keys all) (z : AllZip Named keys due) where
     abbrev is_due : Bool
@@ -151,10 +145,9 @@ module _ {P : Type 0} (cmp : P → P → Ordering) (order : IsTotalOrder cmp) (p
 
     keys_counted : count_by (names o r) all ≡ cond is_due 1 0
     keys_counted =
-        sum_by-IsPermutation (λ key. cond (names o r key) 1 0) keys all same ∙ count_named o r keys due z
-        ∙ count_due now sinces ws told (is_of cmp o r) (number_of_pair cmp pairs o r)
-        (of_number cmp order pairs o r (number_of_pair cmp pairs o r) refl ws numbered)
-        ∙ sym (ap (λ o. cond (has_come now o) 1 0) (since_numbered cmp sinces ws told order pairs numbered o r))
+        sum_by-IsPermutation _ keys all same ∙ count_named o r keys due z ∙ count_due now sinces ws told _ _
+        (of_number cmp order pairs o r _ refl ws numbered) ∙ sym (ap (λ o. cond (has_come now o) 1 0)
+        (since_numbered cmp sinces ws told order pairs numbered o r))
 
     -- each pair whose first message may start has a key, and no other
     pub keys_named : list_any (names o r) all ≡ is_due

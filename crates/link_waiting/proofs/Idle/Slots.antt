@@ -103,8 +103,7 @@ module _ {P : Type 0} where
       pub room_of : (sinces : List (Option ℕ)) → AreTold sinces (live slots) → pair < length sinces
       room_of sinces told =
           subst (λ n. n < length sinces) (eqb-true first.slot.pair pair first.same)
-          (each_find (λ w. w.pair < length sinces) (has_pair pair) (live slots) (waiter_of first.slot)
-          (each_of_all (λ w. w.pair < length sinces) (live slots) told.room) found)
+          (each_find (λ w. w.pair < length sinces) _ _ _ (each_of_all _ _ told.room) found)
 
       -- it is empty
       pub live_taken : live (slice_set slots at None) ≡ without_first (has_pair pair) (live slots)
@@ -141,8 +140,7 @@ module _ {P : Type 0} where
   pub gaps_added : (slots : List (Option (Slot P))) (slot : Slot P)
       → count_by is_none (slots ++ Some slot ∷ []) ≡ count_by is_none slots
   gaps_added slots slot =
-      let more : count_by is_none (slots ++ Some slot ∷ []) ≡ count_by is_none slots + 0
-      = sum_by-append gap slots (Some slot ∷ []) in
+      let more : count_by is_none (slots ++ Some slot ∷ []) ≡ count_by is_none slots + 0 = sum_by-append gap slots _ in
       omega (arith, more)
 
   -- where no slot is empty

@@ -1,7 +1,7 @@
 -- What is kept beside the slots, where a message comes or leaves, or another moment is told of a pair.
 use Rattle.link_waiting.proofs.Common.{◌≡◌, ℕ, ◌+◌, ◌<◌, ◌≤◌, ◌==◌, false, cond, List, [], ◌∷◌, ◌++◌, length}
 use Rattle.link_waiting.proofs.Common.{map, Option, Some, None, refl, is_some, sym, ap, ◌∙◌, subst, slice_set, arith}
-use Rattle.link_waiting.proofs.Common.{Result, Ok, Err, is_none, filter, find, option_or, without_first, Rows, Slot}
+use Rattle.link_waiting.proofs.Common.{Result, Ok, Err, is_none, filter, find, without_first, Rows, Slot}
 use Rattle.link_waiting.proofs.Common.{eq-eqb, find-append, each_of_all, all_of_each, each_without}
 use Rattle.link_waiting.proofs.Common.{Waiter, waiter_of, live, has_pair, AreTold, IsToldAnew, IsFirstSlot, OnOk}
 use Rattle.link_waiting.proofs.Common.{All-weaker, All-push, Slots, pair_in, Stands, Marked, moment_at}

@@ -1,5 +1,5 @@
 -- Whether the first waiting message of a pair starts, and what then is.
-use Rattle.link_waiting.proofs.Common.{◌≡◌, ℕ, ◌+◌, ◌-◌, ◌<◌, ◌≤◌, List, [], ◌∷◌, ◌++◌, length, Bool, true, false, not}
+use Rattle.link_waiting.proofs.Common.{◌≡◌, ℕ, ◌+◌, ◌<◌, ◌≤◌, List, [], ◌∷◌, ◌++◌, length, Bool, true, false, not}
 use Rattle.link_waiting.proofs.Common.{cond, ◌&&◌, Option, Some, None, Result, Ok, Err, refl, sym, ap, ◌∙◌, subst}
 use Rattle.link_waiting.proofs.Common.{arith, nat_le, is_none, find, list_any, Ordering, IsTotalOrder, and_from}
 use Rattle.link_waiting.proofs.Common.{leb-true, le-leb, by_bool, first_of_both, second_of_both, without_first}
@@ -23,8 +23,7 @@ same_test a b c d to from =
 pub in_order_from : (last : Option ℕ) (latency t : ℕ)
     → is_in_order last (t + latency) ≡ nat_le (first_moment last latency) t
 in_order_from None latency t = sym (le-leb 0 t (omega arith))
-in_order_from (Some last) latency t =
-    same_test last (t + latency) (last - latency) t (λ h. omega arith) (λ h. omega arith)
+in_order_from (Some last) latency t = same_test last _ _ t (λ h. omega arith) (λ h. omega arith)
 
 module _ {P : Type 0} (cmp : P → P → Ordering) (order : IsTotalOrder cmp) where
   -- what is asked of a pair's message is asked of the pair
@@ -40,21 +39,16 @@ module _ {P : Type 0} (cmp : P → P → Ordering) (order : IsTotalOrder cmp) wh
       → ready ≡ nat_le (first_moment (p.last_arrival o r) m.latency) t
       → (not busy && ready) ≡ may_launch_first cmp t p (first_of cmp p.waiting o r)
   may_launch_is p t o r m busy ready alike found busy_is ready_is =
-      let same : (same_peer cmp o m.origin && same_peer cmp r m.recipient) ≡ true =
-      find_passes (λ (n : Message P). same_peer cmp o n.origin && same_peer cmp r n.recipient) m p.waiting found in
+      let same : (same_peer cmp o m.origin && same_peer cmp r m.recipient) ≡ true = find_passes _ m p.waiting found in
       let parts : (same_peer cmp o m.origin ≡ true) × (same_peer cmp r m.recipient ≡ true) =
-      (first_of_both (same_peer cmp o m.origin) _ same, second_of_both (same_peer cmp o m.origin) _ same) in
-      let sends : busy ≡ list_any (same_pair cmp m) (rated_messages p.sending) =
-      busy_is
-      ∙ sym (any_like cmp order (record m { origin = o; recipient = r }) m (rated_messages p.sending) same) in
-      let moment : ready ≡ is_in_order (p.last_arrival m.origin m.recipient) (t + m.latency) =
-      ready_is
-      ∙ ap (λ (last : Option ℕ). nat_le (first_moment last m.latency) t)
-      (alike o m.origin r m.recipient parts.0 parts.1)
-      ∙ sym (in_order_from (p.last_arrival m.origin m.recipient) m.latency t) in
-      ap (λ (b : Bool). not b && ready) sends
-      ∙ ap (λ (b : Bool). not (list_any (same_pair cmp m) (rated_messages p.sending)) && b) moment
-      ∙ ap (may_launch_first cmp t p) (sym found)
+      (first_of_both _ _ same, second_of_both _ _ same) in
+      let sends : busy ≡ list_any (same_pair cmp m) (rated_messages p.sending) = busy_is ∙ sym
+      (any_like cmp order (record m { origin = o; recipient = r }) m _ same) in
+      let moment : ready ≡ is_in_order (p.last_arrival m.origin m.recipient) (t + m.latency) = ready_is ∙ ap
+      (λ (last : Option ℕ). nat_le (first_moment last m.latency) t) (alike o m.origin r m.recipient parts.0 parts.1) ∙
+      sym (in_order_from _ m.latency t) in
+      ap (λ (b : Bool). not b && ready) sends ∙ ap (λ (b : Bool). not (list_any (same_pair cmp m)
+      (rated_messages p.sending)) && b) moment ∙ ap (may_launch_first cmp t p) (sym found)
 
   -- ---- the launch of a pair
 
@@ -85,11 +79,9 @@ module _ {P : Type 0} (cmp : P → P → Ordering) (order : IsTotalOrder cmp) wh
   pub pushed_is : (t : ℕ) (p : Planned P) (o r : P) (m : Message P) → first_of cmp p.waiting o r ≡ Some m
       → pushed t p o r m ≡ launched cmp t p m
   pushed_is t p o r m found i =
-      let same : (same_peer cmp o m.origin && same_peer cmp r m.recipient) ≡ true =
-      find_passes (λ (n : Message P). same_peer cmp o n.origin && same_peer cmp r n.recipient) m p.waiting found in
+      let same : (same_peer cmp o m.origin && same_peer cmp r m.recipient) ≡ true = find_passes _ m p.waiting found in
       record (launched cmp t p m) {
-        waiting = without_first (λ (n : Message P). sym (of_pair o r m same n) i)
-            p.waiting;
+        waiting = without_first (λ (n : Message P). sym (of_pair o r m same n) i) p.waiting;
       }
 
   pub launch_starts : (t : ℕ) (p mid new : Planned P) (o r : P) (m : Message P) (leavers : List (Message P))
@@ -161,10 +153,9 @@ module _ {P : Type 0} (cmp : P → P → Ordering) (order : IsTotalOrder cmp) (t
       → ready ≡ nat_le (first_moment (p.last_arrival m.origin m.recipient) m.latency) t
       → (not busy && ready) ≡ (is_none (first_of cmp p.waiting m.origin m.recipient) && may_launch cmp t p m)
   may_start_is busy ready alone busy_is ready_is =
-      ap (λ (b : Bool). not b && ready) busy_is
-      ∙ ap (λ (b : Bool). not (list_any (same_pair cmp m) (rated_messages p.sending)) && b)
-      (ready_is ∙ sym (in_order_from (p.last_arrival m.origin m.recipient) m.latency t))
-      ∙ sym (ap (λ (first : Option (Message P)). is_none first && may_launch cmp t p m) alone)
+      ap (λ (b : Bool). not b && ready) busy_is ∙ ap (λ (b : Bool). not (list_any (same_pair cmp m)
+      (rated_messages p.sending)) && b) (ready_is ∙ sym (in_order_from _ m.latency t)) ∙ sym
+      (ap (λ (first : Option (Message P)). is_none first && may_launch cmp t p m) alone)
 
   is_alone : (first : Option (Message P)) → is_none first ≡ true → first ≡ None
   is_alone None h = refl
@@ -172,10 +163,7 @@ module _ {P : Type 0} (cmp : P → P → Ordering) (order : IsTotalOrder cmp) (t
 
   module _ (may : (is_none (first_of cmp p.waiting m.origin m.recipient) && may_launch cmp t p m) ≡ true) where
     joined : first_of cmp (queued cmp m p.waiting) m.origin m.recipient ≡ Some m
-    joined =
-        first_joined cmp order m p.waiting
-        (is_alone (first_of cmp p.waiting m.origin m.recipient)
-        (first_of_both (is_none (first_of cmp p.waiting m.origin m.recipient)) (may_launch cmp t p m) may))
+    joined = first_joined cmp order m p.waiting (is_alone _ (first_of_both _ _ may))
 
     may_m : may_launch cmp t p m ≡ true
     may_m = second_of_both (is_none (first_of cmp p.waiting m.origin m.recipient)) (may_launch cmp t p m) may

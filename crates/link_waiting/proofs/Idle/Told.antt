@@ -17,10 +17,7 @@ module _ {P : Type 0} (cmp : P → P → Ordering) (sinces : List (Option ℕ)) 
   said = option_and_then (λ w. moment_at sinces w.pair)
 
   since_is : (o r : P) → since_in o r ≡ said (find (is_of cmp o r) ws)
-  since_is o r =
-      ap (option_and_then (λ (one : Told P). one.since))
-      (find_map (λ (one : Told P). same_peer cmp o one.origin && same_peer cmp r one.recipient) (told_of sinces) ws)
-      ∙ through (find (is_of cmp o r) ws)
+  since_is o r = ap (option_and_then _) (find_map _ _ ws) ∙ through _
     where
       through : (o : Option (Waiter P))
           → option_and_then (λ (one : Told P). one.since) (option_map (told_of sinces) o) ≡ said o
@@ -31,23 +28,20 @@ module _ {P : Type 0} (cmp : P → P → Ordering) (sinces : List (Option ℕ)) 
     -- it is what is told of the number of the pair
     pub since_alike : (o r : P) (number : Option ℕ) → AreAlike (is_of cmp o r) (has_number number) ws
         → since_in o r ≡ option_and_then (moment_at sinces) number
-    since_alike o r number alike =
-        since_is o r ∙ ap said (find_alike (is_of cmp o r) (has_number number) ws alike) ∙ by number
+    since_alike o r number alike = since_is o r ∙ ap said (find_alike _ (has_number number) ws alike) ∙ by number
       where
         one : (pair : ℕ) (found : Option (Waiter P)) → find (has_pair pair) ws ≡ found → said found ≡ moment_at sinces pair
         one pair None e = sym (told.only pair e)
-        one pair (Some w) e = ap (moment_at sinces) (eqb-true w.pair pair (find_passes (has_pair pair) w ws e))
+        one pair (Some w) e = ap (moment_at sinces) (eqb-true w.pair pair (find_passes _ w ws e))
 
         by : (number : Option ℕ) → said (find (has_number number) ws) ≡ option_and_then (moment_at sinces) number
         by None = ap said (find_false ws)
-        by (Some pair) = one pair (find (has_pair pair) ws) refl
+        by (Some pair) = one pair _ refl
 
     module _ (order : IsTotalOrder cmp) where
       pub since_numbered : (pairs : List (P × P)) → AreNumbered cmp pairs ws → (o r : P)
           → since_in o r ≡ option_and_then (moment_at sinces) (number_of_pair cmp pairs o r)
-      since_numbered pairs numbered o r =
-          since_alike o r (number_of_pair cmp pairs o r)
-          (of_number cmp order pairs o r (number_of_pair cmp pairs o r) refl ws numbered)
+      since_numbered pairs numbered o r = since_alike o r _ (of_number cmp order pairs o r _ refl ws numbered)
 
       -- nothing is told of a pair of which none waits
       pub since_missing : (o r : P) → AreAlike (is_of cmp o r) (has_number None) ws

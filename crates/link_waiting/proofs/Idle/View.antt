@@ -44,18 +44,15 @@ module _ {P : Type 0} (cmp : P → P → Ordering) (order : IsTotalOrder cmp) (o
   pub first_seen : first_of cmp value.messages o r
       ≡ option_map (λ w. w.message) (find (has_number number) (live slots.slots.items))
   first_seen =
-      ap (λ messages. first_of cmp messages o r) (sym (messages_are cmp given_up slots value is up))
-      ∙ first_waits cmp order o r (live slots.slots.items)
-      ∙ ap (option_map (λ (w : Waiter P). w.message))
-      (find_alike (is_of cmp o r) (has_number number) (live slots.slots.items) each)
+      ap (λ messages. first_of cmp messages o r) (sym (messages_are cmp given_up slots value is up)) ∙ first_waits cmp
+      order o r _ ∙ ap (option_map _) (find_alike _ _ _ each)
 
   -- and the others
   pub rest_seen : queue_of cmp (without_first (has_number number) (live slots.slots.items))
       ≡ without_first (same_pair cmp (one_of cmp order o r)) value.messages
   rest_seen =
-      ap (queue_of cmp) (sym (without_alike (is_of cmp o r) (has_number number) (live slots.slots.items) each))
-      ∙ without_waits cmp order o r (live slots.slots.items)
-      ∙ ap (without_first (same_pair cmp (one_of cmp order o r))) (messages_are cmp given_up slots value is up)
+      ap (queue_of cmp) (sym (without_alike _ _ _ each)) ∙ without_waits cmp order o r _ ∙ ap
+      (without_first (same_pair cmp (one_of cmp order o r))) (messages_are cmp given_up slots value is up)
 
   -- what is told of the pair
   pub since_seen : Stands slots → option_and_then (moment_at slots.sinces.items) number ≡ since_of cmp value.told o r
@@ -80,10 +77,9 @@ module _ {P : Type 0} (cmp : P → P → Ordering) (order : IsTotalOrder cmp) (p
       → number_of_pair cmp pairs o r ≡ Some pair → IsToldAnew pair moment slots.sinces.items new.sinces.items
       → Link (since_of cmp (waits_of cmp given_up new).told) moment
   anew_told new pair moment more number anew =
-      ap (since_of cmp) (sym (told_are cmp given_up new (waits_of cmp given_up new) refl up))
-      ∙ since_anew cmp order pairs slots.sinces.items new.sinces.items (live slots.slots.items) (live new.slots.items)
-      kept.stands.told kept.now more.stands.told more.now o r pair moment number anew
-      ∙ ap (λ told. with_link cmp (since_of cmp told) o r moment) (told_are cmp given_up slots value is up)
+      ap (since_of cmp) (sym (told_are cmp given_up new (waits_of cmp given_up new) refl up)) ∙ since_anew cmp order
+      pairs slots.sinces.items new.sinces.items _ _ kept.stands.told kept.now more.stands.told more.now o r pair moment
+      number anew ∙ ap (λ told. with_link cmp (since_of cmp told) o r moment) (told_are cmp given_up slots value is up)
 
 -- ---- what is kept
 

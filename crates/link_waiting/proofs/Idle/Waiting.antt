@@ -92,14 +92,12 @@ module _ {P : Type 0} (cmp : P → P → Ordering) (order : IsTotalOrder cmp) wh
     without_stays : (m : Message P) (ms : List (Message P)) → AreInPairOrder cmp ms → list_any of ms ≡ true
         → without_first of (queued cmp m ms) ≡ queued cmp m (without_first of ms)
     without_stays m [] h any = cc
-    without_stays m (n ∷ ns) h any = by_bool (pair_before cmp m n)
-        (λ e. first e (all_after m n ns e h.0))
+    without_stays m (n ∷ ns) h any = by_bool _ (λ e. first e (all_after m n ns e h.0))
         (λ e. grind (arith, e, any, (without_stays m ns h.1)))
       where
         first : pair_before cmp m n ≡ true → Each (λ z. pair_before cmp m z ≡ true) (n ∷ ns)
             → without_first of (queued cmp m (n ∷ ns)) ≡ queued cmp m (without_first of (n ∷ ns))
-        first e after = by_bool (of m)
-            (λ is. let none : list_any of (n ∷ ns) ≡ false = none_of m (n ∷ ns) is after in
+        first e after = by_bool (of m) (λ is. let none : list_any of (n ∷ ns) ≡ false = none_of m (n ∷ ns) is after in
             let no : true ≡ false = sym any ∙ none in cc)
             (λ other. grind (
               arith,
@@ -130,12 +128,10 @@ module _ {P : Type 0} (cmp : P → P → Ordering) (order : IsTotalOrder cmp) wh
         let more : AreInPairOrder cmp (queued cmp w.message ms) = queued_in_order cmp order w.message ms h in
         let any : list_any of (queued cmp w.message ms) ≡ of w.message =
         any_joined w.message ms ∙ ap (λ b. b || of w.message) none in
-        by_bool (of w.message)
-        (λ is. without_before (queued cmp w.message ms) ws more (any ∙ is)
-        ∙ ap (λ l. joined l ws) (without_it w.message ms none is)
-        ∙ sym (ap (λ b. joined ms (cond b ws (w ∷ without_first (λ w. of w.message) ws))) is))
-        (λ other. without_after (queued cmp w.message ms) ws more (any ∙ other)
-        ∙ sym (ap (λ b. joined ms (cond b ws (w ∷ without_first (λ w. of w.message) ws))) other))
+        by_bool _ (λ is. without_before _ ws more (any ∙ is) ∙ ap (λ l. joined l ws) (without_it w.message ms none is) ∙
+        sym (ap (λ b. joined ms (cond b ws (w ∷ without_first (λ w. of w.message) ws))) is))
+        (λ other. without_after (queued cmp w.message ms) ws more (any ∙ other) ∙ sym
+        (ap (λ b. joined ms (cond b ws (w ∷ without_first (λ w. of w.message) ws))) other))
 
   module _ (origin recipient : P) where
     -- some message of that pair
