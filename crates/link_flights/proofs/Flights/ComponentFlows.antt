@@ -1,10 +1,10 @@
 -- Flows of messages in flight, one after another, and those of a component of all.
-use Rattle.link_flights.proofs.Common.{◌≡◌, ℕ, ◌+◌, ◌<◌, nat_le, Bool, true, false, not, ◌&&◌, ◌||◌, List, [], ◌∷◌}
-use Rattle.link_flights.proofs.Common.{All, All-from_contains, ◌++◌, length, take, get_or, refl, sym, ap, ap₂, ◌∙◌, arith, if◌then◌else◌}
-use Rattle.link_flights.proofs.Common.{list_all, list_any, Ordering, Arc, Global, le-leb, map-append, End, Origin}
+use Rattle.link_flights.proofs.Common.{◌≡◌, ℕ, ◌+◌, ◌<◌, nat_le, true, not, ◌&&◌, ◌||◌, List, [], ◌∷◌}
+use Rattle.link_flights.proofs.Common.{◌++◌, length, take, get_or, sym, ap, ap₂, ◌∙◌, arith, if◌then◌else◌}
+use Rattle.link_flights.proofs.Common.{list_any, Ordering, Arc, Global, le-leb, map-append, End, Origin}
 use Rattle.link_flights.proofs.Common.{Recipient, Component, Flight, keeps, is_of, those_of, is_receiver, has_both}
 use Rattle.link_flights.proofs.Common.{has_end, joins}
-use Rattle.link_flights.proofs.Common.{touches, suits, is_closed, UnitFlight, flight_at, flights_at, take_more, near_of}
+use Rattle.link_flights.proofs.Common.{touches, suits, is_closed, UnitFlight, flight_at, flights_at, take_more}
 use Rattle.link_pairs.specs.declared.message.Message.{Message}
 use Rattle.std.proofs.Math.Bool.{and-false, or-true}
 use Rattle.link_flights.proofs.Common.{all_passed}
@@ -41,14 +41,8 @@ module _ {P : Type 0} (cmp : P → P → Ordering) (component : Component P) (wh
   pub both : (m : Message P) → has_both cmp component m ≡ true
   both m = ap₂ (λ a b. a && b) (has Origin m.origin m.recipient) (has Recipient m.origin m.recipient)
 
-  pub all_both : (ms : List (Message P)) → All (λ m. has_both cmp component m ≡ true) ms
-  all_both ms = All-from_contains (λ m. has_both cmp component m ≡ true) ms (λ m listed. both m)
-
   pub touched : (m : Message P) → touches cmp component m ≡ true
   touched m = ap (λ b. b || is_receiver cmp component m.origin m.recipient) (has Origin m.origin m.recipient)
-
-  pub near_whole : (us : List (UnitFlight P)) → near_of cmp component us ≡ us
-  near_whole = all_pass_filter (λ v. touches cmp component v.message) (λ v. touched v.message)
 
   suited : (u : UnitFlight P) → suits cmp component u ≡ true
   suited u =

@@ -418,11 +418,11 @@ module _ {P : Type 0} (cmp : P → P → Ordering) (component : Component P) whe
       same_sender p q r s cap has e =
           ap (λ b. component.whole || b) (any_alike (λ j. joins cmp j Origin p q) (λ j. joins cmp j Origin r s)
           component.joined.items (λ j h.
-              let m = j.message.value in
-              and_alike (same_peer cmp p m.origin) (have_end j.ends Origin) (same_peer cmp q m.recipient)
-              (same_peer cmp s m.recipient) (λ is. (tied_one j h).0 cap (sym (of.egress p m.origin is) ∙ has))
-              ∙ ap (λ b. b && (have_end j.ends Origin || same_peer cmp s m.recipient))
-              ((eq_by_cmp_equiv order).congr p r m.origin e)))
+          let m = j.message.value in
+          and_alike (same_peer cmp p m.origin) (have_end j.ends Origin) (same_peer cmp q m.recipient)
+          (same_peer cmp s m.recipient) (λ is. (tied_one j h).0 cap (sym (of.egress p m.origin is) ∙ has))
+          ∙ ap (λ b. b && (have_end j.ends Origin || same_peer cmp s m.recipient))
+          ((eq_by_cmp_equiv order).congr p r m.origin e)))
 
       -- and so for all that a peer receives
       same_receiver : (p q r s : P) (cap : ℕ) → caps.ingress q ≡ Some cap → same_peer cmp q s ≡ true
@@ -430,11 +430,11 @@ module _ {P : Type 0} (cmp : P → P → Ordering) (component : Component P) whe
       same_receiver p q r s cap has e =
           ap (λ b. component.whole || b) (any_alike (λ j. joins cmp j Recipient p q) (λ j. joins cmp j Recipient r s)
           component.joined.items (λ j h.
-              let m = j.message.value in
-              and_alike (same_peer cmp q m.recipient) (have_end j.ends Recipient) (same_peer cmp p m.origin)
-              (same_peer cmp r m.origin) (λ is. (tied_one j h).1 cap (sym (of.ingress q m.recipient is) ∙ has))
-              ∙ ap (λ b. b && (have_end j.ends Recipient || same_peer cmp r m.origin))
-              ((eq_by_cmp_equiv order).congr q s m.recipient e)))
+          let m = j.message.value in
+          and_alike (same_peer cmp q m.recipient) (have_end j.ends Recipient) (same_peer cmp p m.origin)
+          (same_peer cmp r m.origin) (λ is. (tied_one j h).1 cap (sym (of.ingress q m.recipient is) ∙ has))
+          ∙ ap (λ b. b && (have_end j.ends Recipient || same_peer cmp r m.origin))
+          ((eq_by_cmp_equiv order).congr q s m.recipient e)))
 
       -- two flows that a side limits are both of it or both not
       pub apart : (s : Subject P) (cap : ℕ) → cap_of caps s ≡ Some cap → (f g : Flow P) → HasBothOrNone f

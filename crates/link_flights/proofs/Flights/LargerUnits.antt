@@ -1,8 +1,8 @@
 -- What is in flight, counted in larger units: it is worth the same, fair as before, and finishes when it did.
-use Rattle.link_flights.proofs.Common.{◌∣◌, ◌≡◌, ℕ, zero, suc, ◌-◌, ◌*◌, ◌/◌, ◌<◌, ◌≤◌, nat_le, Bool, true, false, cond}
+use Rattle.link_flights.proofs.Common.{◌∣◌, ◌≡◌, ℕ, zero, suc, ◌-◌, ◌*◌, ◌/◌, ◌<◌, ◌≤◌, nat_le, Bool, true, false}
 use Rattle.link_flights.proofs.Common.{if◌then◌else◌, List, [], ◌∷◌, Some, slice_get, refl, sym, ap, ◌∙◌, subst, arith}
 use Rattle.link_flights.proofs.Common.{inl, inr, ◌+◌, length, get_or, map, Option, Contains, slice_index, IsGcd, AllZip}
-use Rattle.link_flights.proofs.Common.{Ordering, mul_assoc, same_Some, slice_get_read, slice_get_within, le-leb}
+use Rattle.link_flights.proofs.Common.{Ordering, mul_assoc, same_Some, slice_get_read, le-leb}
 use Rattle.link_flights.proofs.Common.{cases_lt, All-contains, Side, IsFair, reduced, billion, reduced_alike}
 use Rattle.link_flights.proofs.Common.{reduced_scaled, Caps, All-from_contains, message_of, is_delivered, limits, In}
 use Rattle.link_flights.proofs.Common.{in_from_contains, contains_from_in, capped_sides, Flight, UnitFlight, left_by}
@@ -18,7 +18,6 @@ use Rattle.fairness.proofs.Lists.Sums.{sum_by_same}
 use Rattle.fairness.proofs.Lists.SumOrder.{sum_by-scaled}
 use Rattle.link_pairs.specs.declared.message.Message as code
 use Rattle.link_flights.specs.Flights.LargerUnits.{IsFactorOf, IsFactorOfAll, AreCountedBy}
-use Rattle.link_flights.specs.Flights.LargerUnits.{IsCommonFactor}
 use Rattle.fairness.proofs.Lists.Zips.{zip-filter}
 use Rattle.link_flights.proofs.Flights.Flight.{zip_there}
 use Rattle.link_flights.proofs.Flights.Units.{units_positive}
@@ -62,13 +61,6 @@ module _ {P : Type 0} (scale : ℕ) (fs : List (Flight P)) where
           (same_Some x f (sym (slice_get_read fs (length fs) at x refl inside is)
           ∙ ap (slice_get fs) (sym same) ∙ there)) here
     ];
-  }
-
-  pub all_divided : (at by : ℕ) → IsFactorUpTo scale fs at by → length fs ≤ at → IsCommonFactor scale fs by
-  all_divided at by h end = record {
-    some = h.some;
-    units = h.units;
-    all = λ i f there. h.so_far i f (omega (arith, slice_get_within fs i f there)) there;
   }
 
 -- ---- fairness in larger units

@@ -1,5 +1,5 @@
 -- Messages in flight that have got fair rates: what keeps them so, and how they are read.
-use Rattle.link_flights.proofs.Common.{◌≡◌, ℕ, ◌-◌, ◌<◌, Bool, true, false, cond, not, List, [], ◌∷◌, Option, Contains}
+use Rattle.link_flights.proofs.Common.{◌≡◌, ℕ, ◌-◌, ◌<◌, true, not, List, [], ◌∷◌, Option, Contains}
 use Rattle.link_flights.proofs.Common.{refl, sym, ap, ◌∙◌, subst, inl, inr, AllZip, filter, Ordering, Caps, AreOfPeers}
 use Rattle.link_flights.proofs.Common.{limits, In, in_from_contains, contains_from_in, Message, is_delivered}
 use Rattle.link_flights.proofs.Common.{rated_messages, drained_to, is_spent, Flights, UnitFlight, DrainsTo, AreTimed}
@@ -26,7 +26,7 @@ module _ {P : Type 0} where
 
   rated_alike : (us vs : List (UnitFlight P)) → AllZip IsAsRated us vs
       → AllZip IsAsRated (rated_ones us) (rated_ones vs)
-  rated_alike = zip-filter IsAsRated (λ u. u.rated) (λ v. v.rated) (λ u v as. sym as.rated)
+  rated_alike = zip-filter IsAsRated (λ u. u.rated) (λ v. v.rated) (λ u v same. sym same.rated)
 
   messages_alike : (us vs : List (UnitFlight P)) → AllZip IsAsRated us vs → sent_messages vs ≡ sent_messages us
   messages_alike [] [] z = refl

@@ -4,7 +4,7 @@ use Rattle.link_flights.proofs.Common.{inr, ◌⊎◌, List, [], ◌∷◌, ◌+
 use Rattle.link_flights.proofs.Common.{refl, sym, ap, ◌∙◌, subst, arith, if◌then◌else◌, IsTotalOrder, filter, list_all}
 use Rattle.link_flights.proofs.Common.{list_any, Ordering, Arc, Global, cases_lt, false≢true, and_from, eq_by_cmp_equiv}
 use Rattle.link_flights.proofs.Common.{take_all, All-contains, All-weaker, list_all-map, none-some, same_Some}
-use Rattle.link_flights.proofs.Common.{get_or_from_slice_get, slice_get_within, same_peer, by_bool, first_of_both}
+use Rattle.link_flights.proofs.Common.{get_or_from_slice_get, same_peer, by_bool, first_of_both}
 use Rattle.link_flights.proofs.Common.{second_of_both, In, get_in, in_from_contains, contains_from_in, all_passed}
 use Rattle.link_flights.proofs.Common.{Component, Flight, UnitFlight, flight_at, flights_at, HaveRates, keeps, has_both}
 use Rattle.link_flights.proofs.Common.{touches, suits, is_closed, AreSuited, AreTouched, those_near, Ascends, share}
@@ -166,15 +166,6 @@ module _ {P : Type 0} (cmp : P → P → Ordering) where
           next only;
     }
 
-    -- no other shares that end
-    pub listed_all : PassesNowhere (λ one. share cmp end m one.message.value) list from (length list)
-        → AreListedAt cmp end m near list
-    listed_all apart i one there shares = elim (cases_lt i from) [
-      | inl less ↦ so_far.listed i one less there shares
-      | inr past ↦ absurd (false≢true
-          (sym (apart_there (length list) apart i one past (slice_get_within list i one there) there) ∙ shares))
-    ]
-
   -- the same before some place, and the first from that place on that shares that end is known
   pub record HasWalked (end : End) (m : Message P) (list : List (Flight P)) (next : Option ℕ)
       (before near : List ℕ) : Type 0 where
@@ -220,12 +211,6 @@ module _ {P : Type 0} (cmp : P → P → Ordering) where
               (there.here one) (further one);
           so_far = listed_more end m list walked.from before near walked.so_far at after there here still only;
         }
-
-    -- where there is no next one, all are listed
-    pub walked_all : next ≡ None → AreListedAt cmp end m near list
-    walked_all is =
-        listed_all end m list walked.from before near walked.so_far
-        (subst (IsNextPlace is_shared list walked.from) is walked.is_next)
 
     -- fewer stand behind the next one
     pub fewer_behind : (at : ℕ) → next ≡ Some at → (following : Option ℕ)

@@ -1,5 +1,5 @@
 use Rattle.link_flights.proofs.Common.{◌≡◌, ◌<◌, ◌+◌, true, false, Some, length, slice_get, subst, sym, ap, ◌∙◌, arith}
-use Rattle.link_flights.proofs.Common.{slice_get_within, slice_get-get_or}
+use Rattle.link_flights.proofs.Common.{slice_get-get_or}
 use Rattle.link_flights.proofs.Flights.Noted.{AreListedUpTo, one_more_noted, none_more_noted}
 use Rattle.link_flights.proofs.component.list_again.Goals.{then-noted-at+in_ok-push, else-noted-at}
 use Rattle.link_flights.proofs.component.list_again.Goals as goal
@@ -23,8 +23,3 @@ loop-at-preserved c =
           subst (λ (x : _). AreListedUpTo noted (at + 1) x.items) (sym w.places-is)
           (none_more_noted noted at places c.loop-at.invariant here)
     ]
-
-pub returns-clause-listed : goal.returns-clause-listed
-returns-clause-listed c at is =
-    let noted = c.args.noted.now in
-    c.loop-at.invariant.all at (omega (arith, c.loop-at-test.false, slice_get_within noted at true is)) is

@@ -1,5 +1,5 @@
 use Rattle.link_flights.proofs.Common.{◌*◌, get_or, take, ap, sym, ◌∙◌, arith, mul_assoc, product}
-use Rattle.link_flights.proofs.Flights.Units.{product-take, product-take_all}
+use Rattle.link_flights.proofs.Flights.Units.{product-take}
 use Rattle.link_flights.proofs.flight.grow.Goals as goal
 
 pub loop-factor-preserved : goal.loop-factor-preserved
@@ -9,7 +9,3 @@ loop-factor-preserved c =
     c.in_ok-multiply.ensures.value ∙ ap (λ n. n * factor) c.loop-factor.invariant
     ∙ mul_assoc c.args.units.now so_far factor
     ∙ ap (λ k. c.args.units.now * k) (sym (product-take c.args.growth.now c.loop-factor.factor-index (omega arith)))
-
-pub returns-clause-grown : goal.returns-clause-grown
-returns-clause-grown c = c.loop-factor.invariant
-    ∙ ap (λ k. c.args.units.now * k) (product-take_all c.args.growth.now c.loop-factor.factor-index (omega arith))

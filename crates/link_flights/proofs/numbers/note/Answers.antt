@@ -1,14 +1,6 @@
-use Rattle.link_flights.proofs.Common.{refl, ◌∙◌, arith, length-set, slice_get_within}
+use Rattle.link_flights.proofs.Common.{◌∙◌, arith, length-set, slice_get_within}
 use Rattle.link_flights.proofs.Flights.Numbered.{numbered_more}
 use Rattle.link_flights.proofs.numbers.note.Goals as goal
-
-pub loop-number-init : goal.loop-number-init
-loop-number-init c = record { numbered = λ k at less there. absurd (omega (arith, less)); each = refl }
-
-pub bounds-number_at-places : goal.bounds-number_at-places
-bounds-number_at-places c =
-    let within = c.requires.within c.loop-number.number 0 c.loop-number-test.true in
-    omega (arith, within, c.loop-number.invariant.each)
 
 pub loop-number-preserved : goal.loop-number-preserved
 loop-number-preserved c =

@@ -166,9 +166,3 @@ side_at-requires-clause-at g c =
     let places = c.places-places.result.now in
     subst (λ ps. Contains ps (get_or places c.loop-number.number 0)) c.places-places.ensures
     (Contains-get_or places c.loop-number.number 0 c.loop-number-test.true)
-
-pub side_at-requires-clause-places : goal.side_at-requires-clause-places
-side_at-requires-clause-places g c = c.requires.places
-
-pub side_at-requires-clause-suited : goal.side_at-requires-clause-suited
-side_at-requires-clause-suited g c = c.requires.suited

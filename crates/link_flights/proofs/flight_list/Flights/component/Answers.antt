@@ -1,6 +1,6 @@
-use Rattle.link_flights.proofs.Common.{All, All-nil, IsTied, caps_of, [], sym, subst, ◌∙◌, true≢false, in_units}
+use Rattle.link_flights.proofs.Common.{All, All-nil, IsTied, caps_of, [], sym, subst, ◌∙◌, in_units}
 use Rattle.std.proofs.lemmas.Result.{IfOk-weaker}
-use Rattle.link_flights.proofs.Flights.ComponentFlows.{closed_whole, all_both}
+use Rattle.link_flights.proofs.Flights.ComponentFlows.{closed_whole}
 use Rattle.link_flights.proofs.Flights.Search.{all_listed, closed_if_near, near_if_listed}
 use Rattle.link_flights.proofs.Flights.Search.{still_has_all, still_has_messages, still_touches_new}
 use Rattle.link_flights.proofs.flight_list.Flights.component.Goals as goal
@@ -47,22 +47,6 @@ grow-requires g c = record {
   noted = c.requires.none;
   each = c.requires.each;
 }
-
-pub returns-then-branch-clause-level : goal.returns-then-branch-clause-level
-returns-then-branch-clause-level g c = c.in_ok-grow.ensures.level c.if-branch.true
-
-pub returns-then-branch-clause-noted : goal.returns-then-branch-clause-noted
-returns-then-branch-clause-noted g c = c.in_ok-grow.ensures.noted c.if-branch.true
-
-pub returns-clause-loose : goal.returns-clause-loose
-returns-clause-loose g c =
-    IfOk-weaker c.all_touched.result _ _ (λ all whole. all_both g.P.Ord.cmp all whole c.args.self.now.loose)
-    c.all_touched.ensures.whole
-
-pub returns-clause-near : goal.returns-clause-near
-returns-clause-near g c =
-    IfOk-weaker c.all_touched.result _ _ (λ all whole part. absurd (true≢false (sym whole ∙ part)))
-    c.all_touched.ensures.whole
 
 pub returns-then-branch-clause-tied : goal.returns-then-branch-clause-tied
 returns-then-branch-clause-tied g c =

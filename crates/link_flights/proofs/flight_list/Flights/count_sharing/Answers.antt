@@ -9,10 +9,6 @@ loop-next-init g c =
     (λ (one : Flight g.row.P.Denot). share g.P.Ord.cmp c.args.end c.args.message.now one.message.value)
     c.args.self.now.list.items 0 c.first_at-next.result c.first_at-next.ensures
 
-pub next_at-next-requires : goal.next_at-next-requires
-next_at-next-requires g c =
-    subst (λ next. IfSome next (λ at. at < length c.args.self.now.list.items)) c.in-Some.is c.loop-next.invariant
-
 pub loop-next-preserved : goal.loop-next-preserved
 loop-next-preserved g c =
     let list = c.args.self.now.list.items in

@@ -9,12 +9,6 @@ loop-at-init g c =
     let old = c.args.self.now in
     (unchanged (IsCountedBy c.args.by) old.list.items, refl, refl, refl, refl, refl)
 
-pub at-requires : goal.at-requires
-at-requires g c = omega (arith, changed_length _ _ _ _ c.loop-at.invariant.0)
-
-pub put-requires-clause-place : goal.put-requires-clause-place
-put-requires-clause-place g c = omega (arith, changed_length _ _ _ _ c.loop-at.invariant.0)
-
 pub put-requires-clause-past : goal.put-requires-clause-past
 put-requires-clause-past g c =
     let so_far = c.loop-at.self in

@@ -44,15 +44,6 @@ put-requires-clause-past g c =
           (v.stands_at.ensures.unrated v.if-not-stands_at.true)
     ]) e.id e.message e.left e.rate e.since e.rated).past_at
 
-pub put-requires-clause-still_rated : goal.put-requires-clause-still_rated
-put-requires-clause-still_rated g c d rated =
-    c.in_ok-one.ensures.rated ∙ ap (λ f. f.rated) (c.at-one.ensures ∙ get_or_default c.loop-at.self.list.items c.loop-at.at c.at-one.result.now d
-    (put-requires-clause-place g c)) ∙ rated
-
-pub put-requires-clause-message : goal.put-requires-clause-message
-put-requires-clause-message g c d = c.in_ok-one.ensures.message ∙ ap (λ f. f.message.value) (c.at-one.ensures ∙ get_or_default c.loop-at.self.list.items c.loop-at.at c.at-one.result.now d
-    (put-requires-clause-place g c))
-
 pub loop-at-preserved : goal.loop-at-preserved
 loop-at-preserved g c =
     let old = c.args.self.now in
@@ -133,6 +124,3 @@ returns-clause-timed g c later timed =
     let end : length now.list.items ≤ c.loop-at.at = omega (arith, changed_length _ _ _ _ c.loop-at.invariant.0) in
     all_timed old.at c.args.now old.list.items now.list.items
     (all_changed (IsBrought old.at c.args.now) old.list.items now.list.items c.loop-at.at c.loop-at.invariant.0 end) later timed
-
-pub at-one-requires : goal.at-one-requires
-at-one-requires g c = omega (arith, changed_length _ _ _ _ c.loop-at.invariant.0)

@@ -34,9 +34,3 @@ rate_part-requires g c = record {
   timed = c.requires.timed c.if-were_rated.true;
   one_each = c.requires.one_each;
 }
-
-pub returns-then-len-eq1-clause-rated : goal.returns-then-len-eq1-clause-rated
-returns-then-len-eq1-clause-rated g c = c.in_ok-rate_one.ensures.rated
-
-pub returns-then-len-eq1-clause-kept : goal.returns-then-len-eq1-clause-kept
-returns-then-len-eq1-clause-kept g c = c.in_ok-rate_one.ensures.kept

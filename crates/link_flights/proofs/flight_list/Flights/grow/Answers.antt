@@ -1,5 +1,5 @@
 use Rattle.link_flights.proofs.Common.{[], ℕ, ◌≤◌, ◌+◌, All, length, refl, sym, ◌∙◌, subst, arith}
-use Rattle.link_flights.proofs.Common.{false≢true, append-nil, take_all, All-nil, AreAllListed, AreListed, AreNoted, IsTouched}
+use Rattle.link_flights.proofs.Common.{append-nil, take_all, All-nil, AreAllListed, AreListed, AreNoted, IsTouched}
 use Rattle.std.specs.Prelude.{IfSome}
 use Rattle.link_flights.specs.Flights.Components.{IsSuited}
 use Rattle.link_flights.proofs.Flights.Noted.{noted_in_order}
@@ -66,62 +66,6 @@ pub returns-clause-noted : goal.returns-clause-noted
 returns-clause-noted g c all =
     noted_in_order c.loop-next.component.near.items c.put_in_order.new.places.items c.loop-next.noted.items
     c.loop-next.invariant.1 c.in_ok-put_in_order.ensures.still c.in_ok-put_in_order.ensures.only
-
-pub returns-then-is_large-clause-joined : goal.returns-then-is_large-clause-joined
-returns-then-is_large-clause-joined g c = ([], sym (append-nil c.args.component.now.joined.items))
-
-pub list_joining-requires-clause-number : goal.list_joining-requires-clause-number
-list_joining-requires-clause-number g c = omega (arith, c.loop-next-test.true, c.len-in-loop-next.ensures)
-
-pub list_joining-requires-clause-walked : goal.list_joining-requires-clause-walked
-list_joining-requires-clause-walked g c = c.loop-next.invariant.0.walked
-
-pub list_joining-requires-clause-noted : goal.list_joining-requires-clause-noted
-list_joining-requires-clause-noted g c = c.loop-next.invariant.1
-
-pub list_joining-requires-clause-each : goal.list_joining-requires-clause-each
-list_joining-requires-clause-each g c = c.loop-next.invariant.2
-
-pub returns-then-is_large-2-clause-joined : goal.returns-then-is_large-2-clause-joined
-returns-then-is_large-2-clause-joined g c =
-    starts_on _ c.loop-next.component.joined.items c.list_joining.new.component.joined.items c.loop-next.invariant.0.joined
-    c.in_ok-list_joining.ensures.joined
-
-pub put_in_order-requires : goal.put_in_order-requires
-put_in_order-requires g c = record { noted = subst (AreNoted c.loop-next.component.near.items) (sym c.deref.ensures.value) c.loop-next.invariant.1 }
-
-pub returns-clause-joined : goal.returns-clause-joined
-returns-clause-joined g c = c.loop-next.invariant.0.joined
-
-pub returns-clause-level : goal.returns-clause-level
-returns-clause-level g c all = c.loop-next.invariant.0.level
-
-pub returns-then-is_large-clause-walked : goal.returns-then-is_large-clause-walked
-returns-then-is_large-clause-walked g c all = absurd (false≢true all)
-
-pub returns-then-is_large-clause-order : goal.returns-then-is_large-clause-order
-returns-then-is_large-clause-order g c all = absurd (false≢true all)
-
-pub returns-then-is_large-clause-noted : goal.returns-then-is_large-clause-noted
-returns-then-is_large-clause-noted g c all = absurd (false≢true all)
-
-pub returns-then-is_large-clause-level : goal.returns-then-is_large-clause-level
-returns-then-is_large-clause-level g c all = absurd (false≢true all)
-
-pub returns-then-is_large-2-clause-walked : goal.returns-then-is_large-2-clause-walked
-returns-then-is_large-2-clause-walked g c all = absurd (false≢true all)
-
-pub returns-then-is_large-2-clause-order : goal.returns-then-is_large-2-clause-order
-returns-then-is_large-2-clause-order g c all = absurd (false≢true all)
-
-pub returns-then-is_large-2-clause-noted : goal.returns-then-is_large-2-clause-noted
-returns-then-is_large-2-clause-noted g c all = absurd (false≢true all)
-
-pub returns-then-is_large-2-clause-level : goal.returns-then-is_large-2-clause-level
-returns-then-is_large-2-clause-level g c all = absurd (false≢true all)
-
-pub returns-clause-tied : goal.returns-clause-tied
-returns-clause-tied g c = c.loop-next.invariant.3
 
 pub returns-then-is_large-2-clause-tied : goal.returns-then-is_large-2-clause-tied
 returns-then-is_large-2-clause-tied g c tied = c.in_ok-list_joining.ensures.tied (c.loop-next.invariant.3 tied)

@@ -1,4 +1,4 @@
-use Rattle.link_flights.proofs.Common.{◌≡◌, ◌≤◌, ◌||◌, true, false, get_or, refl, ap, sym, ◌∙◌, arith, get_or_default}
+use Rattle.link_flights.proofs.Common.{◌≡◌, ◌≤◌, ◌||◌, true, refl, ap, sym, ◌∙◌, arith, get_or_default}
 use Rattle.link_flights.proofs.Common.{slice_get_read, is_unlimited, flight_at, is_out, caps_of, message_of}
 use Rattle.link_flights.proofs.Flights.Done.{as_test, out_by_finish, out_by_left, out_unrated, limited_there}
 use Rattle.link_flights.proofs.Flights.Flight.{is_past, all_there, past_so}

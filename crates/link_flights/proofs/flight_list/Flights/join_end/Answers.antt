@@ -1,6 +1,6 @@
 use Rattle.link_flights.proofs.Common.{◌≡◌, [], length, refl, sym, ◌∙◌, subst, arith, append-nil, AreSuited, AreNoted}
 use Rattle.link_flights.proofs.Common.{Component, AreStillTied, caps_of}
-use Rattle.link_flights.proofs.Flights.Search.{HasJoinedAll, HasWalked, none_listed, walked_more, walked_all}
+use Rattle.link_flights.proofs.Flights.Search.{HasJoinedAll, HasWalked, none_listed, walked_more}
 use Rattle.link_flights.proofs.Flights.Search.{fewer_behind, next_inside, starts_on, suited_with_one}
 use Rattle.link_flights.proofs.flight_list.Flights.join_end.Goals.{then-is_new+in_ok-join_one, else-is_new}
 use Rattle.link_flights.proofs.flight_list.Flights.join_end.Goals as goal
@@ -98,26 +98,3 @@ loop-next-preserved g c =
             c.loop-next.invariant.3,
           )
     ]
-
-pub returns-clause-listed : goal.returns-clause-listed
-returns-clause-listed g c =
-    walked_all g.P.Ord.cmp c.args.end c.args.message.now c.args.self.now.list.items c.loop-next.next
-    c.args.component.now.near.items c.loop-next.component.near.items c.loop-next.invariant.0.walked c.in_default.is
-
-pub list-requires-clause-noted : goal.list-requires-clause-noted
-list-requires-clause-noted g c = c.loop-next.invariant.1
-
-pub returns-clause-more : goal.returns-clause-more
-returns-clause-more g c = c.loop-next.invariant.0.walked.so_far.more
-
-pub returns-clause-only : goal.returns-clause-only
-returns-clause-only g c = c.loop-next.invariant.0.walked.so_far.only
-
-pub returns-clause-noted : goal.returns-clause-noted
-returns-clause-noted g c = c.loop-next.invariant.1
-
-pub returns-clause-suited : goal.returns-clause-suited
-returns-clause-suited g c = c.loop-next.invariant.0.suited
-
-pub returns-clause-tied : goal.returns-clause-tied
-returns-clause-tied g c = c.loop-next.invariant.3

@@ -1,4 +1,4 @@
-use Rattle.link_flights.proofs.Common.{[], inl, inr, append-nil, take, sym, ◌∙◌, have_end}
+use Rattle.link_flights.proofs.Common.{inl, inr, take, sym, ◌∙◌, have_end}
 use Rattle.link_flights.proofs.Common.{false≢true, true, ◌≡◌, ◌⊎◌, Contains, subst, All-weaker, SharesEndAt}
 use Rattle.link_pairs.specs.declared.message.Message.{Message}
 use Rattle.link_flights.specs.Flights.Components.{HasListedEnd}
@@ -13,9 +13,6 @@ returns-then-not-have-clause-listed g c = record {
   only = λ k d low. inl (Contains-get_or c.args.component.now.near.items k d low);
 }
 
-pub returns-then-not-have-clause-joined : goal.returns-then-not-have-clause-joined
-returns-then-not-have-clause-joined g c = ([], sym (append-nil c.args.component.now.joined.items))
-
 pub returns-then-was_joined-clause-listed : goal.returns-then-was_joined-clause-listed
 returns-then-was_joined-clause-listed g c =
     let old = c.args.component.now in
@@ -27,9 +24,6 @@ returns-then-was_joined-clause-listed g c =
       more = λ at here. here;
       only = λ k d low. inl (Contains-get_or old.near.items k d low);
     }
-
-pub returns-then-was_joined-clause-joined : goal.returns-then-was_joined-clause-joined
-returns-then-was_joined-clause-joined g c = ([], sym (append-nil c.args.component.now.joined.items))
 
 pub returns-clause-listed : goal.returns-clause-listed
 returns-clause-listed g c =

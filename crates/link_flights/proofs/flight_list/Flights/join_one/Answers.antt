@@ -1,10 +1,5 @@
-use Rattle.link_flights.proofs.Common.{◌||◌, sym, ap, ◌∙◌, none-some, same_Some, Flight, flight_at, has_both, keeps}
+use Rattle.link_flights.proofs.Common.{◌||◌, sym, ap, ◌∙◌, same_Some, Flight, flight_at, has_both, keeps}
 use Rattle.link_flights.proofs.flight_list.Flights.join_one.Goals as goal
-
-pub returns-in_default-clause-suited : goal.returns-in_default-clause-suited
-returns-in_default-clause-suited g c one there =
-    let none = rw c.in_default.is at c.get.ensures in
-    absurd (none-some one (none ∙ there))
 
 pub returns-else-not-keeps-clause-suited : goal.returns-else-not-keeps-clause-suited
 returns-else-not-keeps-clause-suited g c one there =

@@ -1,4 +1,4 @@
-use Rattle.link_flights.proofs.Common.{◌≡◌, ◌<◌, ◌≤◌, ◌∙◌, refl, All, length, true, subst, arith, take_all, slice_get_within}
+use Rattle.link_flights.proofs.Common.{◌≡◌, ◌<◌, ◌≤◌, ◌∙◌, All, length, true, subst, arith, take_all, slice_get_within}
 use Rattle.link_flights.proofs.Common.{has_both}
 use Rattle.std.proofs.lemmas.List.Elements.{All-map}
 use Rattle.link_pairs.specs.declared.message.Message.{Message}
@@ -95,21 +95,3 @@ returns-clause-loose g c =
     subst (All has) c.as_slice-loose.ensures
     (All-map has (λ m. m.value) loose
     (subst (All (λ m. has m.value)) (take_all c.loop-at-3.at loose (omega (arith, c.loop-at-3-test.false))) listed))
-
-pub loop-at-init : goal.loop-at-init
-loop-at-init g c = (λ k d low. absurd (omega (arith, low)), λ tied. tied, refl, refl, refl)
-
-pub returns-clause-done : goal.returns-clause-done
-returns-clause-done g c = c.loop-at-3.invariant.0
-
-pub returns-clause-new : goal.returns-clause-new
-returns-clause-new g c = c.loop-at-3.invariant.1
-
-pub index-message-requires : goal.index-message-requires
-index-message-requires g c = omega (arith, c.loop-at-test.true, c.len-at-end.ensures)
-
-pub at-requires : goal.at-requires
-at-requires g c = omega (arith, c.loop-at-2-test.true, c.len-at-end-2.ensures)
-
-pub returns-clause-tied : goal.returns-clause-tied
-returns-clause-tied g c = c.loop-at-3.invariant.3

@@ -45,20 +45,6 @@ join_new_end-requires-2-clause-before g c =
     first_listed g.P.Ord.cmp c.args.self.now.list.items old.joined.items mid.joined.items first.joined c.args.number
     old.near.items mid.near.items (omega (arith, c.requires.number)) c.requires.walked.listed first.listed.more
 
-pub returns-clause-joined : goal.returns-clause-joined
-returns-clause-joined g c =
-    starts_on c.args.component.now.joined.items c.join_new_end.new.component.joined.items
-    c.join_new_end-2.new.component.joined.items c.in_ok-join_new_end.ensures.joined c.in_ok-join_new_end-2.ensures.joined
-
-pub join_new_end-requires-clause-number : goal.join_new_end-requires-clause-number
-join_new_end-requires-clause-number g c = omega (arith, c.requires.number)
-
-pub join_new_end-requires-clause-before : goal.join_new_end-requires-clause-before
-join_new_end-requires-clause-before g c = c.requires.walked.listed
-
-pub join_new_end-requires-clause-suited : goal.join_new_end-requires-clause-suited
-join_new_end-requires-clause-suited g c = c.requires.walked.suited
-
 pub join_new_end-requires-2-clause-number : goal.join_new_end-requires-2-clause-number
 join_new_end-requires-2-clause-number g c =
     omega (
@@ -67,36 +53,6 @@ join_new_end-requires-2-clause-number g c =
       starts_longer c.args.component.now.joined.items
           c.join_new_end.new.component.joined.items c.in_ok-join_new_end.ensures.joined,
     )
-
-pub join_new_end-requires-2-clause-suited : goal.join_new_end-requires-2-clause-suited
-join_new_end-requires-2-clause-suited g c = c.in_ok-join_new_end.ensures.suited
-
-pub join_new_end-requires-clause-noted : goal.join_new_end-requires-clause-noted
-join_new_end-requires-clause-noted g c = c.requires.noted
-
-pub join_new_end-requires-clause-each : goal.join_new_end-requires-clause-each
-join_new_end-requires-clause-each g c = c.requires.each
-
-pub join_new_end-requires-2-clause-noted : goal.join_new_end-requires-2-clause-noted
-join_new_end-requires-2-clause-noted g c = c.in_ok-join_new_end.ensures.noted
-
-pub join_new_end-requires-2-clause-each : goal.join_new_end-requires-2-clause-each
-join_new_end-requires-2-clause-each g c = c.join_new_end.ensures.each ∙ c.requires.each
-
-pub returns-clause-noted : goal.returns-clause-noted
-returns-clause-noted g c = c.in_ok-join_new_end-2.ensures.noted
-
-pub index-requires : goal.index-requires
-index-requires g c = omega (arith, c.requires.number)
-
-pub returns-clause-each : goal.returns-clause-each
-returns-clause-each g c = c.join_new_end-2.ensures.each ∙ c.join_new_end.ensures.each
-
-pub returns-clause-level : goal.returns-clause-level
-returns-clause-level g c = c.join_new_end-2.ensures.level ∙ c.join_new_end.ensures.level
-
-pub returns-clause-whole : goal.returns-clause-whole
-returns-clause-whole g c = c.join_new_end-2.ensures.whole ∙ c.join_new_end.ensures.whole
 
 pub returns-clause-tied : goal.returns-clause-tied
 returns-clause-tied g c tied =

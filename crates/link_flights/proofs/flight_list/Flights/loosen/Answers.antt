@@ -33,6 +33,3 @@ returns-clause-still g c = record {
     c.in_ok-lower_floor.ensures.lower u.rate h.1,
   );
 }
-
-pub at-requires : goal.at-requires
-at-requires g c = rw c.lower_floor.ensures.list c.requires.place

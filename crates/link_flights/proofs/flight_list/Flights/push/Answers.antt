@@ -1,5 +1,5 @@
 use Rattle.link_flights.proofs.Common.{◌≡◌, ◌++◌, ◌∷◌, [], ◌*◌, length, Some, false, refl, sym, ap, ◌∙◌, subst}
-use Rattle.link_flights.proofs.Common.{List, ◌≤◌, list_all, and_from, filter-append, append-nil, HaveRates, rated_ones}
+use Rattle.link_flights.proofs.Common.{List, ◌≤◌, list_all, and_from, HaveRates}
 use Rattle.link_flights.proofs.Common.{map-append, billion, whole, Flight, message_of, UnitFlight, flight_at}
 use Rattle.link_flights.proofs.Common.{flights_at, AreTimed, rated_flight_of, sending_of, in_flight, in_units}
 use Rattle.std.proofs.lemmas.List.Folds.{list_all-append}
@@ -79,11 +79,6 @@ returns-clause-joined g c =
       at = refl;
       timed = returns-clause-timed g c;
     }
-
-pub returns-clause-rated : goal.returns-clause-rated
-returns-clause-rated g c =
-    let us = in_units c.args.self.now in
-    ap rated_ones (joins_so g c) ∙ filter-append (λ u. u.rated) us (unit_of g c ∷ []) ∙ append-nil (rated_ones us)
 
 pub invariant_of-self-in_default-clause-past : goal.invariant_of-self-in_default-clause-past
 invariant_of-self-in_default-clause-past g c =

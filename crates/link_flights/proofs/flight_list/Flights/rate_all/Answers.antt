@@ -1,9 +1,9 @@
 use Rattle.std.proofs.Math.Nat.{mul-pos}
 use Rattle.link_flights.proofs.Common.{◌≡◌, ◌*◌, ◌<◌, All, [], sym, ap, ap₂, ◌∙◌, subst, product, caps_of}
 use Rattle.link_flights.proofs.Common.{looked_up, UnitFlight, in_units, rates_found, rates_of_levels, rerated}
-use Rattle.link_flights.proofs.Common.{true≢false, length, flight_at}
+use Rattle.link_flights.proofs.Common.{true≢false}
 use Rattle.std.specs.Prelude.{◌≢◌}
-use Rattle.link_flights.proofs.Flights.ComponentFlows.{closed_whole, is_of_whole}
+use Rattle.link_flights.proofs.Flights.ComponentFlows.{closed_whole}
 use Rattle.link_flights.proofs.Flights.RatesGiven.{whole_given, left_given}
 use Rattle.link_flights.proofs.flight_list.Flights.rate_all.Goals as goal
 
@@ -19,20 +19,6 @@ rates_at-requires g c = record {
   suited = closed_whole g.P.Ord.cmp c.whole-all.result c.whole-all.ensures.whole [] (in_units c.args.self.now);
   one_each = c.requires.one_each;
 }
-
-pub set_rates-requires-clause-timed : goal.set_rates-requires-clause-timed
-set_rates-requires-clause-timed g c = c.requires.timed
-
-pub set_rates-requires-clause-one_each : goal.set_rates-requires-clause-one_each
-set_rates-requires-clause-one_each g c = ap length c.deref-4.ensures.value ∙ c.in_ok-rates.ensures.fair.one_each
-
-pub set_rates-requires-clause-others : goal.set_rates-requires-clause-others
-set_rates-requires-clause-others g c i f there out =
-    absurd (true≢false (sym (is_of_whole g.P.Ord.cmp c.whole-all.result c.whole-all.ensures.whole
-    c.whole-all.ensures.level (flight_at 0 f)) ∙ out))
-
-pub set_rates-requires-clause-places : goal.set_rates-requires-clause-places
-set_rates-requires-clause-places g c = c.places.ensures ∙ c.in_ok-numbers.ensures.places
 
 pub set_rates-requires-clause-left : goal.set_rates-requires-clause-left
 set_rates-requires-clause-left g c =
@@ -84,6 +70,3 @@ invariant_of-self g c =
       counted = new.counted;
       have_rates = new.have_rates;
     }
-
-pub returns-clause-kept : goal.returns-clause-kept
-returns-clause-kept g c = c.in_ok-set_rates.ensures.kept

@@ -2,9 +2,6 @@ use Rattle.link_flights.proofs.Common.{rules, ◌≡◌, ◌∷◌, ◌&&◌, []
 use Rattle.link_flights.proofs.Common.{AreRatedBeside, rerated}
 use Rattle.link_flights.proofs.flight_list.Flights.rate_only.Goals as goal
 
-pub set_rates-requires-clause-one_each : goal.set_rates-requires-clause-one_each
-set_rates-requires-clause-one_each g c = c.in_ok-level.ensures.fair.one_each
-
 pub returns-then-le-clause-gives : goal.returns-then-le-clause-gives
 returns-then-le-clause-gives g c =
     let cmp = g.P.Ord.cmp in
@@ -23,12 +20,6 @@ returns-then-le-clause-gives g c =
       at = e.at;
       timed = e.timed;
     } in (rated, e.kept)
-
-pub set_rates-requires-clause-timed : goal.set_rates-requires-clause-timed
-set_rates-requires-clause-timed g c = λ yes. c.requires.timed
-
-pub set_rates-requires-clause-others : goal.set_rates-requires-clause-others
-set_rates-requires-clause-others g c = λ i f there out. c.requires.timed i f there
 
 pub left_for-requires : goal.left_for-requires
 left_for-requires g c = record {

@@ -1,4 +1,4 @@
-use Rattle.link_flights.proofs.Common.{arith, ◌≡◌, [], true, length, sym, ap, ◌∙◌, subst, nat_le, list_all}
+use Rattle.link_flights.proofs.Common.{arith, ◌≡◌, [], true, sym, ap, ◌∙◌, subst, nat_le, list_all}
 use Rattle.link_flights.proofs.Common.{nil_from_length, caps_of, in_units, AreRatedBeside, rates_found, rates_of_levels}
 use Rattle.link_flights.proofs.Common.{rerated, product, IsFair, slice_index, sides_under, left_caps, flows_of}
 use Rattle.std.proofs.lemmas.Bool.Decides.{nat_tests}
@@ -40,12 +40,3 @@ returns-clause-gives g c =
       at = e.at;
       timed = e.timed;
     } in (rated, e.kept)
-
-pub set_rates-requires-clause-timed : goal.set_rates-requires-clause-timed
-set_rates-requires-clause-timed g c = λ yes. c.requires.timed
-
-pub set_rates-requires-clause-one_each : goal.set_rates-requires-clause-one_each
-set_rates-requires-clause-one_each g c = ap length c.deref-3.ensures.value ∙ c.in_ok-part.ensures.fair.one_each
-
-pub set_rates-requires-clause-others : goal.set_rates-requires-clause-others
-set_rates-requires-clause-others g c = λ i f there out. c.requires.timed i f there

@@ -10,10 +10,6 @@ invariant_of-self-2-clause-past g c =
     ap (list_all (is_past old.at)) c.in_default.ensures.items
     ∙ all_but (is_past old.at) old.list.items c.args.at old.past
 
-pub invariant_of-self-2-clause-counted : goal.invariant_of-self-2-clause-counted
-invariant_of-self-2-clause-counted g c =
-    omega (arith, c.min-self.ensures, c.len.ensures)
-
 pub invariant_of-self-2-clause-have_rates : goal.invariant_of-self-2-clause-have_rates
 invariant_of-self-2-clause-have_rates g c =
     let old = c.args.self.now in

@@ -131,9 +131,6 @@ returns-clause-timed g c =
     let all = to_end (length h.up_to.rest) h.place c.loop-number.number h.up_to refl none in
     (all_rerated all (omega arith)).timed
 
-pub rerate-requires-clause-timed : goal.rerate-requires-clause-timed
-rerate-requires-clause-timed g c = c.loop-number.invariant.0.timed
-
 pub returns-clause-counted : goal.returns-clause-counted
 returns-clause-counted g c =
     let cmp = g.P.Ord.cmp in

@@ -1,5 +1,5 @@
 use Rattle.link_flights.proofs.Common.{arith, subst, IsGcd}
-use Rattle.link_flights.proofs.Flights.LargerUnits.{divides_whole, next_factor, all_divided}
+use Rattle.link_flights.proofs.Flights.LargerUnits.{divides_whole, next_factor}
 use Rattle.link_flights.proofs.flight_list.Flights.shared_factor.Goals as goal
 
 pub loop-at-init : goal.loop-at-init
@@ -19,8 +19,3 @@ loop-at-preserved g c =
     next_factor c.args.self.now.scale c.args.self.now.list.items c.loop-at.at c.loop-at.by next c.at.result.now
     c.loop-at.invariant (omega arith) c.at.ensures c.factor_of-by.ensures.part
     c.factor_of-by.ensures.factor
-
-pub returns : goal.returns
-returns g c =
-    all_divided c.args.self.now.scale c.args.self.now.list.items c.loop-at.at c.loop-at.by c.loop-at.invariant
-    (omega arith)

@@ -112,12 +112,3 @@ returns-clause-floor g c =
     (omega arith) stay in
     floor_so out now.floor (is_out g.P.Ord.cmp caps old.scale) old.at old.list.items (λ f. refl)
     (all_over out now.floor old.list.items now.list.items (length now.list.items) over (omega arith))
-
-pub next_done-requires-clause-limited : goal.next_done-requires-clause-limited
-next_done-requires-clause-limited g c rated = c.loop-next.invariant.4 (c.requires.limited rated)
-
-pub next_done-requires-clause-timed : goal.next_done-requires-clause-timed
-next_done-requires-clause-timed g c rated = c.loop-next.invariant.3 (c.requires.timed rated)
-
-pub at-requires : goal.at-requires
-at-requires g c = c.in-Some.ensures.next.high

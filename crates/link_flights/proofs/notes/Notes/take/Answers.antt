@@ -1,4 +1,4 @@
-use Rattle.link_flights.proofs.Common.{◌≡◌, ◌-◌, Bool, false, take, refl, All, sym, subst, arith, All-append, replicate}
+use Rattle.link_flights.proofs.Common.{◌≡◌, ◌-◌, Bool, false, take, refl, All, sym, subst, All-append, replicate}
 use Rattle.link_flights.proofs.Common.{All-take}
 use Rattle.std.proofs.Common.{vec_len}
 use Rattle.std.proofs.lemmas.List.Elements.{All-replicate}
@@ -18,6 +18,3 @@ returns-clause-none c =
     (All-append IsNot (take c.args.count old.items) (replicate (c.args.count - vec_len old) false)
     (All-take IsNot c.args.count old.items before)
     (All-replicate IsNot (c.args.count - vec_len old) false refl)))
-
-pub returns-clause-each : goal.returns-clause-each
-returns-clause-each c = omega (arith, c.resize.new.self.ok.0, c.in_ok-resize.ensures.len)

@@ -1,5 +1,5 @@
 use Rattle.link_flights.proofs.Common.{subst, sym, ◌∙◌, same_Some, Origin, Recipient}
-use Rattle.link_flights.proofs.Flights.Rows.{row_seen, shared_from}
+use Rattle.link_flights.proofs.Flights.Rows.{shared_from}
 use Rattle.row_table.specs.Rows.{IsNext, is_sent_by, is_received_by}
 use Rattle.link_flights.proofs.table.Table.first_beside.Goals as goal
 
@@ -24,7 +24,3 @@ returns-in-Recipient g c =
     (λ row there. subst (λ r. IsNext (is_received_by r.receiver) rows 0 c.first_received.result)
     (same_Some c.at-row.result.now row (sym c.at-row.ensures ∙ there)) c.first_received.ensures.next)
     c.first_received.ensures.within)
-
-pub at-row-requires : goal.at-row-requires
-at-row-requires g c =
-    (row_seen c.self.inside.given_up c.self.inside.rows c.args.self.now c.self.view_is c.args.at c.requires).1

@@ -1,7 +1,7 @@
 use Rattle.link_flights.proofs.Common.{◌&&◌, ◌∙◌, Bool, sym, ap}
 use Rattle.std.specs.Prelude.{not}
 use Rattle.std.proofs.Common.{eqb}
-use Rattle.link_flights.proofs.Flights.Rows.{row_delivered, row_seen}
+use Rattle.link_flights.proofs.Flights.Rows.{row_delivered}
 use Rattle.link_flights.proofs.table.Table.is_delivered.Goals as goal
 
 pub returns-then-row : goal.returns-then-row
@@ -19,7 +19,3 @@ returns-else-row g c d =
     c.if-row.false ∙ ap (λ (b : Bool). b && not (eqb row.sender row.receiver)) (sym c.if-row.false)
     ∙ row_delivered table.given_up table.rows c.args.self.now c.self.view_is g.P.Ord.cmp g.met.P.Ord.total table.numbers
     c.self.invariant.now c.args.at c.requires row c.at-row.ensures d
-
-pub at-row-requires : goal.at-row-requires
-at-row-requires g c =
-    (row_seen c.self.inside.given_up c.self.inside.rows c.args.self.now c.self.view_is c.args.at c.requires).1

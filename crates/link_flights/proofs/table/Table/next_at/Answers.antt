@@ -1,5 +1,5 @@
 use Rattle.link_flights.proofs.Common.{suc, add-one, Origin, Recipient}
-use Rattle.link_flights.proofs.Flights.Rows.{row_seen, shared_from}
+use Rattle.link_flights.proofs.Flights.Rows.{shared_from}
 use Rattle.link_flights.proofs.table.Table.next_at.Goals as goal
 
 pub returns-in-Origin : goal.returns-in-Origin
@@ -17,11 +17,3 @@ returns-in-Recipient g c =
     (shared_from table.given_up table.rows c.args.self.now c.self.view_is g.P.Ord.cmp g.met.P.Ord.total table.numbers
     c.self.invariant.now Recipient c.args.at (suc c.args.at) c.next_received.result c.requires c.next_received.ensures.next
     c.next_received.ensures.within)
-
-pub next_sent-requires : goal.next_sent-requires
-next_sent-requires g c =
-    (row_seen c.self.inside.given_up c.self.inside.rows c.args.self.now c.self.view_is c.args.at c.requires).1
-
-pub next_received-requires : goal.next_received-requires
-next_received-requires g c =
-    (row_seen c.self.inside.given_up c.self.inside.rows c.args.self.now c.self.view_is c.args.at c.requires).1

@@ -1,5 +1,5 @@
 use Rattle.link_flights.proofs.Common.{◌≡◌, sym, ap, ◌∙◌, cond, [], false, remove, items_of}
-use Rattle.link_flights.proofs.Flights.Rows.{on_ok, on_err, taken_back, changed, all_removed, items_removed, kept, not_given_up, row_seen}
+use Rattle.link_flights.proofs.Flights.Rows.{on_ok, on_err, taken_back, changed, all_removed, items_removed, kept, not_given_up}
 use Rattle.link_flights.proofs.table.Table.remove.Given.{Over}
 use Rattle.link_flights.proofs.table.Table.remove.Goals as goal
 
@@ -24,7 +24,3 @@ returns-clause-items g c =
     ap (λ b. cond b [] (items_of c.take.new.self.now)) up
     ∙ ap items_of (taken g c) ∙ items_removed table.rows.now c.args.at
     ∙ ap (λ items. remove items c.args.at) (kept table.given_up table.rows c.args.self.now c.self.view_is up)
-
-pub take-requires : goal.take-requires
-take-requires g c =
-    (row_seen c.self.inside.given_up c.self.inside.rows c.args.self.now c.self.view_is c.args.at c.requires).1

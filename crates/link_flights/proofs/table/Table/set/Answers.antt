@@ -50,7 +50,3 @@ returns-clause-items g c =
     ∙ ap items_of (put g c) ∙ map-set (λ row. row.item) table.rows.now c.args.at _
     ∙ ap (λ items. slice_set items c.args.at c.args.one)
     (kept table.given_up table.rows c.args.self.now c.self.view_is (up g c))
-
-pub set-requires : goal.set-requires
-set-requires g c =
-    (row_seen c.self.inside.given_up c.self.inside.rows c.args.self.now c.self.view_is c.args.at c.requires.place).1

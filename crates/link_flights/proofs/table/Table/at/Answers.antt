@@ -1,6 +1,0 @@
-use Rattle.link_flights.proofs.Flights.Rows.{row_seen}
-use Rattle.link_flights.proofs.table.Table.at.Goals as goal
-
-pub at-requires : goal.at-requires
-at-requires g c =
-    (row_seen c.self.inside.given_up c.self.inside.rows c.args.self.now c.self.view_is c.args.at c.requires).1
