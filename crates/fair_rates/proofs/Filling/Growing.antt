@@ -36,6 +36,17 @@ grown_once factor opens one = record {
     itself : (o : OpenSide) → IsGrown factor o o
     itself o = record { slack = omega (arith, ap (λ n. o.slack * n) one); rising = refl }
 
+-- in another order
+pub grown_permuted : (factor : ℕ) (old new later : List (Reverse OpenSide)) → IsPermutation new later
+    → AreGrown factor old new → AreGrown factor old later
+grown_permuted factor old new later perm grown = record {
+  each =
+      All-permutation (λ b. (a : Reverse OpenSide) × Contains old a × IsGrown factor a.0 b.0) new later perm grown.each;
+  all = All-weaker (λ a. (b : Reverse OpenSide) × Contains new b × IsGrown factor a.0 b.0)
+      (λ a. (b : Reverse OpenSide) × Contains later b × IsGrown factor a.0 b.0)
+      (λ a (b, listed, is). (b, Contains-permutation new later b perm listed, is)) old grown.all;
+}
+
 pub grown_more : (factor : ℕ) (old new later : List (Reverse OpenSide)) (x y : Reverse OpenSide)
     → IsPermutation (y ∷ new) later → IsGrown factor x.0 y.0 → AreGrown factor old new
     → AreGrown factor (old ++ x ∷ []) later

@@ -205,7 +205,25 @@ fn next_side(
     Ok(None)
 }
 
-/// The same sides at a scale so many times as great. They are listed in room that is lent, which gets that of the others.
+/// The sides at a scale so many times as great, in their order. They are listed in room that is lent, which gets that of
+/// the others.
+fn grown_list(
+    sides: Vec<Reverse<OpenSide>>,
+    factor: u64,
+    spare: &mut Vec<Reverse<OpenSide>>,
+) -> Result<Vec<Reverse<OpenSide>>, AllocError>
+    ensures grown { IfOk result (λ grown. AreGrown factor sides.items grown.items) }
+    ensures count { IfOk result (λ grown. length grown.items ≡ length sides.items) }
+{
+    spare.clear();
+    let mut grown = mem::replace(spare, sides);
+    for Reverse(side) in spare.drain(..) {
+        grown.push(Reverse(side.grown(factor)?))?;
+    }
+    Ok(grown)
+}
+
+/// The same by their shares.
 fn grown_sides(
     queue: BinaryHeap<Reverse<OpenSide>>,
     factor: u64,
@@ -219,12 +237,8 @@ fn grown_sides(
     if factor == 1 {
         return Ok(queue);
     }
-    spare.clear();
-    let mut grown = BinaryHeap::from(mem::replace(spare, queue.into_vec()));
-    for Reverse(side) in spare.drain(..) {
-        grown.push(Reverse(side.grown(factor)?))?;
-    }
-    Ok(grown)
+    let sides = queue.into_vec();
+    Ok(BinaryHeap::from(grown_list(sides, factor, spare)?))
 }
 
 /// The max-min fair rates of `count` flows on the sides, in parts of one unit of the caps. Where a rate is no whole
