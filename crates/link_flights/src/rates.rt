@@ -119,7 +119,7 @@ impl<P: Peer> Flights<P> {
         ensures refused { IfErr result (λ e. e ≡ Error.OutOfMemory) }
     {
         let unsearched = self.give_rates(peers, pairs, done, were_rated, rooms)?;
-        Ok(self.settle(unsearched))
+        Ok(self.end_account(unsearched))
     }
 
     /// Gives each its fair rate from the last account on, and answers how many accounts more are made without a search.
@@ -257,7 +257,7 @@ impl<P: Peer> Flights<P> {
 
     /// Notes that all have got rates, that nothing is loose any more, and that so many accounts more are made without a
     /// search. Answers the first moment at which nothing is left of one.
-    fn settle(&mut self, unsearched: usize) -> Option<u64>
+    fn end_account(&mut self, unsearched: usize) -> Option<u64>
         requires rated { list_all (λ one. one.rated) self.old.list.items ≡ true }
         ensures finish { (t : ℕ)
             → has_come t result ≡ list_any (λ one. has_come t one.finish) self.new.list.items }
