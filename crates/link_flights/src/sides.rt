@@ -35,7 +35,6 @@ use link_pairs::known_pairs::Pairs;
 use link_pairs::message::Message;
 use link_pairs::peers::Peers;
 use natural::Natural;
-use std::mem;
 
 /// The cap at that end of the message.
 fn cap_at<P: Peer>(end: End, message: &Message<P>, peers: &Peers<P>) -> Option<u128>
@@ -184,37 +183,9 @@ impl<P: Peer> Flights<P> {
             End.Recipient one.message.value)) }
         ensures refused { IfErr result (λ e. e ≡ Error.OutOfMemory) }
     {
-        let sent = self.left_at(End::Origin, at, component, numbers, peers, users)?;
-        let received = self.left_at(End::Recipient, at, component, numbers, peers, users)?;
+        let sent = self.side_at(End::Origin, at, component, numbers, peers, users)?;
+        let received = self.side_at(End::Recipient, at, component, numbers, peers, users)?;
         Ok(least(sent, received))
-    }
-
-    /// What the others leave of the cap at one end of the one at that place, in units, if it uses one.
-    fn left_at(
-        &self,
-        end: End,
-        at: usize,
-        component: &Component<P>,
-        numbers: &Numbers,
-        peers: &Peers<P>,
-        users: &mut Vec<usize>,
-    ) -> Result<Option<Natural>, Error>
-        requires at { Contains numbers.now at }
-        requires places { numbers.now ≡ places_of (λ f. is_of P.cmp component.now (flight_at 0 f)) 0 self.now.list.items }
-        requires suited { list_all (suits P.cmp component.now) (in_units self.now) ≡ true }
-        ensures left { IfOk result (λ left. (one : AnyFlight P) (pairs : List (AnyPair P))
-            → slice_get self.now.list.items at ≡ Some one → left ≡ left_at_end P.cmp
-            (caps_of P.cmp peers.now.entries pairs) self.now.scale component.now (in_units self.now) end
-            one.message.value) }
-        ensures refused { IfErr result (λ e. e ≡ Error.OutOfMemory) }
-    {
-        match self.side_at(end, at, component, numbers, peers, users)? {
-            Some(side) => {
-                *users = side.users;
-                Ok(Some(side.cap))
-            }
-            None => Ok(None),
-        }
     }
 
     /// The sides at one end come. Who has one is noted in room that is lent.
@@ -245,7 +216,7 @@ impl<P: Peer> Flights<P> {
                 continue;
             }
             users.reserve(room)?;
-            if let Some(side) = self.side_at(
+            if let Some(cap) = self.side_at(
                 end,
                 places[number],
                 component,
@@ -253,9 +224,9 @@ impl<P: Peer> Flights<P> {
                 peers,
                 &mut users,
             )? {
-                note_users(has_side, &side.users);
-                room = side.users.len();
-                sides.push(side)?;
+                note_users(has_side, &users);
+                room = users.len();
+                sides.push(Side { cap, users })?;
                 users = filling.take_list(self.alloc);
             }
         }
@@ -277,8 +248,8 @@ impl<P: Peer> Flights<P> {
         }
     }
 
-    /// The side at one end of the one at that place, which is rated anew, if it uses one. It takes the room for its
-    /// users.
+    /// The side at one end of the one at that place, which is rated anew, if it uses one: what the others leave of its
+    /// cap, in units, and its users, who are listed in room that is lent.
     fn side_at(
         &self,
         end: End,
@@ -286,19 +257,19 @@ impl<P: Peer> Flights<P> {
         component: &Component<P>,
         numbers: &Numbers,
         peers: &Peers<P>,
-        room: &mut Vec<usize>,
-    ) -> Result<Option<Side>, Error>
+        users: &mut Vec<usize>,
+    ) -> Result<Option<Natural>, Error>
         requires at { Contains numbers.now at }
         requires places { numbers.now ≡ places_of (λ f. is_of P.cmp component.now (flight_at 0 f)) 0 self.now.list.items }
         requires suited { list_all (suits P.cmp component.now) (in_units self.now) ≡ true }
-        ensures side { IfOk result (λ side. IfSome side (λ side. (one : AnyFlight P) (pairs : List (AnyPair P))
+        ensures side { IfOk result (λ left. IfSome left (λ left. (one : AnyFlight P) (pairs : List (AnyPair P))
             → slice_get self.now.list.items at ≡ Some one → IsSideOf P.cmp
             (left_caps P.cmp (caps_of P.cmp peers.now.entries pairs) self.now.scale component.now (in_units self.now))
             (flows_of P.cmp component.now (in_units self.now)) (end_subject end (flow_sent P.cmp one.message.value))
-            (side_of side))) }
-        ensures uses { IfOk result (λ side. IfSome side (λ side. (one : AnyFlight P)
+            (record { cap = left; users = users.new.items }))) }
+        ensures uses { IfOk result (λ left. IfSome left (λ left. (one : AnyFlight P)
             → slice_get self.now.list.items at ≡ Some one → uses_end P.cmp end one.message.value ≡ true)) }
-        ensures none { IfOk result (λ side. side ≡ None → (one : AnyFlight P) (pairs : List (AnyPair P))
+        ensures none { IfOk result (λ left. left ≡ None → (one : AnyFlight P) (pairs : List (AnyPair P))
             → slice_get self.now.list.items at ≡ Some one → uses_end P.cmp end one.message.value ≡ true
             → cap_of (caps_of P.cmp peers.now.entries pairs) (end_subject end (flow_sent P.cmp one.message.value)) ≡ None) }
         ensures refused { IfErr result (λ e. e ≡ Error.OutOfMemory) }
@@ -310,26 +281,26 @@ impl<P: Peer> Flights<P> {
         let Some(cap) = cap_at(end, message, peers) else {
             return Ok(None);
         };
-        let cap = self.scale.product(cap)?;
-        let mut users = mem::replace(room, Vec::new(self.alloc));
+        let mut left = self.scale.product(cap)?;
         users.clear();
-        let mut side = Side { cap, users };
         let mut next = self.list.first_beside(end, at);
         while let Some(at) = next {
-            self.count_one(end, at, component, numbers, &mut side)?;
+            self.count_one(end, at, component, numbers, &mut left, users)?;
             next = self.list.next_at(end, at);
         }
-        Ok(Some(side))
+        Ok(Some(left))
     }
 
-    /// The one at that place counts for the side at one of its ends, if it uses that: as a user, or by what it takes.
+    /// The one at that place counts for the side at one of its ends, if it uses that: as a user, or by what it takes of
+    /// what is left.
     fn count_one(
         &self,
         end: End,
         at: usize,
         component: &Component<P>,
         numbers: &Numbers,
-        side: &mut Side,
+        left: &mut Natural,
+        users: &mut Vec<usize>,
     ) -> Result<(), Error>
         requires within { at < length self.now.list.items }
         requires places { numbers.now ≡ places_of (λ f. is_of P.cmp component.now (flight_at 0 f)) 0 self.now.list.items }
@@ -337,19 +308,19 @@ impl<P: Peer> Flights<P> {
         ensures counted { OnOk result ((m : AnyMessage P) (one : AnyFlight P) (all : ℕ)
             → slice_get self.now.list.items at ≡ Some one → share P.cmp end m one.message.value ≡ true
             → IsCounted P.cmp component.now self.now.at self.now.list.items (end_subject end (flow_sent P.cmp m)) all at
-            (side_of side.old)
+            (record { cap = left.old; users = users.old.items })
             → IsCounted P.cmp component.now self.now.at self.now.list.items (end_subject end (flow_sent P.cmp m)) all (at + 1)
-            (side_of side.new)) }
+            (record { cap = left.new; users = users.new.items })) }
         ensures refused { IfErr result (λ e. e ≡ Error.OutOfMemory) }
     {
         if !self.uses(end, at) {
             return Ok(());
         }
         if let Some(number) = numbers.number(at) {
-            side.users.push(number)?;
+            users.push(number)?;
             return Ok(());
         }
-        side.cap.subtract(self.list.at(at).rate.number());
+        left.subtract(self.list.at(at).rate.number());
         Ok(())
     }
 

@@ -4,7 +4,7 @@ use std::alloc::Global;
 /// There is room for at least so many guesses, once there is one.
 const FEW: usize = 16;
 
-/// 2^64 over the golden ratio. By it hints that follow one another are spread over all guesses.
+/// 2^64 over the golden ratio. By it hints that follow one another are spread evenly over all guesses.
 const SPREAD: u64 = 0x9E37_79B9_7F4A_7C15;
 
 /// Guesses at the numbers of peers, by their hints. One guess may stand for several peers. Each is tried before it is
@@ -50,10 +50,10 @@ impl Hints {
         self.guesses.resize(count, 0).is_ok()
     }
 
-    /// Where the guess for that hint stands. How many there are is a power of two.
+    /// Where the guess for that hint stands: as far along all guesses as the product is along the numbers of 64 bits.
     #[inline(always)]
     fn place(&self, hint: u64) -> usize {
-        let spread = hint.wrapping_mul(SPREAD) >> 32;
-        spread as usize & self.guesses.len().wrapping_sub(1)
+        let spread = (hint.wrapping_mul(SPREAD) >> 32) as usize;
+        spread.wrapping_mul(self.guesses.len()) >> 32
     }
 }

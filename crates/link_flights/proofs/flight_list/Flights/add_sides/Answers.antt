@@ -2,7 +2,7 @@ use Rattle.link_flights.proofs.Common.{◌≡◌, ◌<◌, ◌+◌, ◌++◌, �
 use Rattle.link_flights.proofs.Common.{slice_get, length, map, sym, ap, ◌∙◌, subst, arith, Contains, All, IfSome}
 use Rattle.link_flights.proofs.Common.{option_map, ◌-◌, ◌*◌, map-append, slice_get-get_or, limits, side_of, caps_of}
 use Rattle.link_flights.proofs.Common.{Pair, looked_up, Flight, is_of, places_of, flight_at, in_units, left_caps}
-use Rattle.link_flights.proofs.Common.{flows_of, flow_sent, end_subject, kept_load, uses_end, IsSideOf, places_below}
+use Rattle.link_flights.proofs.Common.{Side, flows_of, flow_sent, end_subject, kept_load, uses_end, IsSideOf, places_below}
 use Rattle.std.proofs.lemmas.List.{with_items_is}
 use Rattle.link_flights.proofs.Flights.AllSides.{HaveAdded, of_left, cap_left, end_kind, side_there, none_there, side_added, sides_added}
 use Rattle.link_flights.proofs.Flights.Sides.{place_is_of, flow_at, as_many, limited_itself, uses_if_limited}
@@ -49,11 +49,11 @@ note_users-requires g c k d within =
     (slice_get-get_or c.places-places.result.now number 0 c.loop-number-test.true) in
     let p = place_is_of rated self.list.items number at placed in
     let there = flow_at cmp component self.list.items self.at number at p.x placed p.there in
-    let is = (subst (λ o. IfSome o (λ side. (one : Flight g.row.P.Denot) (pairs : List (Pair g.row.P.Denot))
+    let is = (subst (λ o. IfSome o (λ cap. (one : Flight g.row.P.Denot) (pairs : List (Pair g.row.P.Denot))
     → slice_get self.list.items at ≡ Some one → IsSideOf cmp
     (left_caps cmp (caps_of cmp c.args.peers.now.entries pairs) self.scale component us) (flows_of cmp component us)
-    (end_subject end (flow_sent cmp one.message.value)) (side_of side))) c.in-Some.is c.in_ok-side.ensures.side) p.x [] p.there in
-    let low : get_or c.in-Some.side.users.items k d < length (flows_of cmp component us) =
+    (end_subject end (flow_sent cmp one.message.value)) (record { cap = cap; users = c.side_at.new.users.items }))) c.in-Some.is c.in_ok-cap.ensures.side) p.x [] p.there in
+    let low : get_or c.side_at.new.users.items k d < length (flows_of cmp component us) =
     subst (All (λ user. user < length (flows_of cmp component us))) (sym is.users)
     (places_below (limits cmp (end_subject end (flow_sent cmp p.x.message.value))) (flows_of cmp component us)
     (length (flows_of cmp component us)) (omega arith)) k d
@@ -92,27 +92,28 @@ loop-number-preserved g c =
           ap (λ v. v.items) w.has_side-is
           ∙ with_items_is c.loop-number.has_side w.note_users.new.has_side
           (w.note_users.ensures.each ∙ w.deref_mut.ensures.len) in
+          let added : Side = record { cap = w.in-Some.cap; users = c.side_at.new.users.items } in
           let pushed : map side_of c.match-branch-4.sides.items
-          ≡ map side_of c.loop-number.sides.items ++ side_of w.in-Some.side ∷ [] =
+          ≡ map side_of c.loop-number.sides.items ++ added ∷ [] =
           ap (λ v. map side_of v.items) w.sides-is ∙ ap (map side_of) w.in_ok-push.ensures.items
-          ∙ map-append side_of c.loop-number.sides.items (w.in-Some.side ∷ []) in
+          ∙ map-append side_of c.loop-number.sides.items _ in
           let m = p.x.message.value in
           let uses : uses_end cmp end m ≡ true =
-          (subst (λ o. IfSome o (λ side. (one : Flight g.row.P.Denot) → slice_get self.list.items at ≡ Some one
-          → uses_end cmp end one.message.value ≡ true)) w.in-Some.is c.in_ok-side.ensures.uses) p.x p.there in
+          (subst (λ o. IfSome o (λ cap. (one : Flight g.row.P.Denot) → slice_get self.list.items at ≡ Some one
+          → uses_end cmp end one.message.value ≡ true)) w.in-Some.is c.in_ok-cap.ensures.uses) p.x p.there in
           record {
             added = λ pairs.
                 let caps = caps_of cmp c.args.peers.now.entries pairs in
                 let of = of_left cmp order caps (looked_up cmp order c.args.peers.now.entries pairs) self.scale component us in
                 let left = left_caps cmp caps self.scale component us in
-                let is = (subst (λ o. IfSome o (λ side. (one : Flight g.row.P.Denot) (pairs : List (Pair g.row.P.Denot))
+                let is = (subst (λ o. IfSome o (λ cap. (one : Flight g.row.P.Denot) (pairs : List (Pair g.row.P.Denot))
                 → slice_get self.list.items at ≡ Some one → IsSideOf cmp
                 (left_caps cmp (caps_of cmp c.args.peers.now.entries pairs) self.scale component us) (flows_of cmp component us)
-                (end_subject end (flow_sent cmp one.message.value)) (side_of side))) w.in-Some.is c.in_ok-side.ensures.side) p.x pairs p.there in
+                (end_subject end (flow_sent cmp one.message.value)) (record { cap = cap; users = c.side_at.new.users.items }))) w.in-Some.is c.in_ok-cap.ensures.side) p.x pairs p.there in
                 let h = side_added cmp order left of (flows_of cmp component us) (end_subject end) (end_kind cmp end)
                 (map side_of c.args.sides.now.items) (map side_of c.loop-number.sides.items) c.loop-number.has_side.items
                 number (c.loop-number.invariant.added pairs) (flow_sent cmp m) there (limited_itself cmp order end m uses)
-                (side_of w.in-Some.side) is w.note_users.new.has_side
+                added is w.note_users.new.has_side
                 (λ k marked. elim (w.note_users.ensures.noted k marked) [
                   | inl was ↦ inl (subst (λ l. slice_get l k ≡ Some true) w.deref_mut.ensures.value was)
                   | inr user ↦ inr (subst (λ l. Contains l k) w.deref.ensures.value user)
@@ -121,7 +122,7 @@ loop-number-preserved g c =
                 (map side_of c.args.sides.now.items) v c.match-branch-4.has_side.items (number + 1)) (sym pushed)
                 (subst (λ v. HaveAdded cmp left (flows_of cmp component us) (end_subject end)
                 (map side_of c.args.sides.now.items)
-                (map side_of c.loop-number.sides.items ++ side_of w.in-Some.side ∷ []) v (number + 1)) (sym noted) h);
+                (map side_of c.loop-number.sides.items ++ added ∷ []) v (number + 1)) (sym noted) h);
             each = ap length noted ∙ each ∙ c.loop-number.invariant.each;
           }
       | in_default w ↦ record {
@@ -136,7 +137,7 @@ loop-number-preserved g c =
             (c.loop-number.invariant.added pairs) (flow_sent cmp m) there
             (λ l. cap_left cmp caps self.scale component us s
             ∙ ap (option_map (λ cap. cap * self.scale - kept_load cmp component us s))
-            (c.in_ok-side.ensures.none w.in_default.is p.x pairs p.there (uses_if_limited cmp end m l))) in
+            (c.in_ok-cap.ensures.none w.in_default.is p.x pairs p.there (uses_if_limited cmp end m l))) in
             subst (λ v. HaveAdded cmp left (flows_of cmp component us) (end_subject end) (map side_of c.args.sides.now.items)
             (map side_of v) c.match-branch-4.has_side.items (number + 1)) (sym (ap (λ v. v.items) w.sides-is))
             (subst (λ v. HaveAdded cmp left (flows_of cmp component us) (end_subject end)

@@ -1,5 +1,5 @@
 use Rattle.link_flights.proofs.Common.{◌≡◌, ◌+◌, ◌-◌, Bool, true, false, Some, slice_get, sym, ap, ◌∙◌, subst}
-use Rattle.link_flights.proofs.Common.{get_or_from_slice_get, same_Some, side_of, Flight, is_of, places_of, flight_at}
+use Rattle.link_flights.proofs.Common.{get_or_from_slice_get, same_Some, Side, Flight, is_of, places_of, flight_at}
 use Rattle.link_flights.proofs.Common.{flow_sent, uses_end, end_subject, IsCounted}
 use Rattle.link_flights.proofs.Flights.Sides.{count_passed, count_user, count_rate, rated_rate}
 use Rattle.link_flights.proofs.Flights.Numbered.{rated_unlisted}
@@ -15,14 +15,14 @@ returns-then-not-uses-clause-counted g c m one all there shares h =
     (get_or_from_slice_get self.list.items c.args.at one one there))
     ∙ c.if-not-uses.true in
     count_passed cmp c.args.end c.args.component.now self.at self.list.items m one all c.args.at there shares
-    (side_of c.args.side.now) uses h
+    (record { cap = c.args.left.now; users = c.args.users.now.items }) uses h
 
 pub returns-in-Some-clause-counted : goal.returns-in-Some-clause-counted
 returns-in-Some-clause-counted g c m one all there shares h =
     let cmp = g.P.Ord.cmp in
     let self = c.args.self.now in
     let component = c.args.component.now in
-    let side = side_of c.args.side.now in
+    let side : Side = record { cap = c.args.left.now; users = c.args.users.now.items } in
     let uses : uses_end cmp c.args.end one.message.value ≡ true =
     sym (c.uses.ensures one ∙ ap (λ (f : Flight _). uses_end cmp c.args.end f.message.value)
     (get_or_from_slice_get self.list.items c.args.at one one there))
@@ -43,7 +43,7 @@ returns-clause-counted g c m one all there shares h =
     let cmp = g.P.Ord.cmp in
     let self = c.args.self.now in
     let component = c.args.component.now in
-    let side = side_of c.args.side.now in
+    let side : Side = record { cap = c.args.left.now; users = c.args.users.now.items } in
     let is : c.at.result.now ≡ one =
     c.at.ensures ∙ get_or_from_slice_get self.list.items c.args.at one c.at.result.now there in
     let uses : uses_end cmp c.args.end one.message.value ≡ true =

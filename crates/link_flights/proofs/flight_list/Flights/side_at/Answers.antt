@@ -1,5 +1,5 @@
 use Rattle.link_flights.proofs.Common.{◌≡◌, ◌-◌, ◌*◌, Some, sym, ap, ◌∙◌, subst, option_map, arith, Contains}
-use Rattle.link_flights.proofs.Common.{get_or_from_slice_get, cap_of, side_of, caps_of, Flight, is_of}
+use Rattle.link_flights.proofs.Common.{get_or_from_slice_get, cap_of, Side, caps_of, Flight, is_of}
 use Rattle.link_flights.proofs.Common.{flight_at, flights_at, flow_sent, uses_end, end_subject, kept_load, IsNextPlace}
 use Rattle.link_flights.proofs.Common.{share, true≢false}
 use Rattle.link_flights.proofs.Flights.AllSides.{cap_left}
@@ -44,7 +44,7 @@ pub loop-next-init : goal.loop-next-init
 loop-next-init g c one there =
     let cmp = g.P.Ord.cmp in
     let self = c.args.self.now in
-    let all = c.in_ok-cap.cap in
+    let all = c.in_ok-left.left in
     subst (λ users. HasCounted cmp c.args.end one.message.value c.args.component.now self.at self.list.items all
     c.first_beside-next.result (record { cap = all; users = users })) (sym c.clear.ensures.items)
     (counting_starts cmp c.args.end one.message.value c.args.component.now self.at self.list.items all
@@ -59,8 +59,8 @@ count_one-requires-clause-within g c =
     let component = c.args.component.now in
     let x = what_is_listed (λ (f : Flight g.row.P.Denot). is_of g.P.Ord.cmp component (flight_at 0 f)) self.list.items
     c.args.at (subst (λ ps. Contains ps c.args.at) c.requires.places c.requires.at) in
-    next_within g.P.Ord.cmp c.args.end x.0.message.value component self.at self.list.items c.in_ok-cap.cap c.loop-next.next
-    (side_of c.loop-next.side) (c.loop-next.invariant x.0 x.1) c.in-Some-next.at c.in-Some-next.is
+    next_within g.P.Ord.cmp c.args.end x.0.message.value component self.at self.list.items c.in_ok-left.left c.loop-next.next
+    (record { cap = c.loop-next.left; users = c.loop-next.users.items }) (c.loop-next.invariant x.0 x.1) c.in-Some-next.at c.in-Some-next.is
 
 pub next_at-next-requires : goal.next_at-next-requires
 next_at-next-requires g c =
@@ -68,8 +68,8 @@ next_at-next-requires g c =
     let component = c.args.component.now in
     let x = what_is_listed (λ (f : Flight g.row.P.Denot). is_of g.P.Ord.cmp component (flight_at 0 f)) self.list.items
     c.args.at (subst (λ ps. Contains ps c.args.at) c.requires.places c.requires.at) in
-    next_within g.P.Ord.cmp c.args.end x.0.message.value component self.at self.list.items c.in_ok-cap.cap c.loop-next.next
-    (side_of c.loop-next.side) (c.loop-next.invariant x.0 x.1) c.in-Some-next.at c.in-Some-next.is
+    next_within g.P.Ord.cmp c.args.end x.0.message.value component self.at self.list.items c.in_ok-left.left c.loop-next.next
+    (record { cap = c.loop-next.left; users = c.loop-next.users.items }) (c.loop-next.invariant x.0 x.1) c.in-Some-next.at c.in-Some-next.is
 
 pub loop-next-smaller : goal.loop-next-smaller
 loop-next-smaller g c =
@@ -77,8 +77,8 @@ loop-next-smaller g c =
     let component = c.args.component.now in
     let x = what_is_listed (λ (f : Flight g.row.P.Denot). is_of g.P.Ord.cmp component (flight_at 0 f)) self.list.items
     c.args.at (subst (λ ps. Contains ps c.args.at) c.requires.places c.requires.at) in
-    fewer_to_count g.P.Ord.cmp c.args.end x.0.message.value component self.at self.list.items c.in_ok-cap.cap c.loop-next.next
-    (side_of c.loop-next.side) (c.loop-next.invariant x.0 x.1) c.in-Some-next.at c.in-Some-next.is
+    fewer_to_count g.P.Ord.cmp c.args.end x.0.message.value component self.at self.list.items c.in_ok-left.left c.loop-next.next
+    (record { cap = c.loop-next.left; users = c.loop-next.users.items }) (c.loop-next.invariant x.0 x.1) c.in-Some-next.at c.in-Some-next.is
     c.next_at-next.result c.next_at-next.ensures
 
 pub loop-next-preserved : goal.loop-next-preserved
@@ -88,15 +88,15 @@ loop-next-preserved g c one there =
     let component = c.args.component.now in
     let end = c.args.end in
     let m = one.message.value in
-    let all = c.in_ok-cap.cap in
+    let all = c.in_ok-left.left in
     let next = c.loop-next.next in
-    let side = side_of c.loop-next.side in
+    let side : Side = record { cap = c.loop-next.left; users = c.loop-next.users.items } in
     let h = c.loop-next.invariant one there in
     let at = c.in-Some-next.at in
     let other = one_there self.list.items at
     (next_within cmp end m component self.at self.list.items all next side h at c.in-Some-next.is) in
     counts_on cmp end m component self.at self.list.items all next side h g.met.P.Ord.total at c.in-Some-next.is
-    c.next_at-next.result c.next_at-next.ensures (side_of c.count_one.new.side)
+    c.next_at-next.result c.next_at-next.ensures (record { cap = c.count_one.new.left; users = c.count_one.new.users.items })
     (c.in_ok-count_one.ensures.counted m other.0 all other.1
     (next_shares cmp end m component self.at self.list.items all next side h at c.in-Some-next.is other.0 other.1)
     (counted_here cmp end m component self.at self.list.items all next side h at c.in-Some-next.is))
@@ -108,9 +108,9 @@ returns-clause-side g c one pairs there =
     let component = c.args.component.now in
     let end = c.args.end in
     let m = one.message.value in
-    let all = c.in_ok-cap.cap in
+    let all = c.in_ok-left.left in
     let s = end_subject end (flow_sent cmp m) in
-    let side = side_of c.loop-next.side in
+    let side : Side = record { cap = c.loop-next.left; users = c.loop-next.users.items } in
     let us = flights_at self.at self.list.items in
     let caps = caps_of cmp c.args.peers.now.entries pairs in
     let is : c.at.result.now ≡ one =
@@ -123,7 +123,7 @@ returns-clause-side g c one pairs there =
     counted_all cmp end m component self.at self.list.items all c.loop-next.next side (c.loop-next.invariant one there)
     c.in_default-next.is in
     let left : c.in-Some.cap * self.scale - kept_load cmp component us s ≡ side.cap =
-    omega (arith, counted.0, c.in_ok-cap.ensures.value) in
+    omega (arith, counted.0, c.in_ok-left.ensures.value) in
     record {
       capped = cap_left cmp caps self.scale component us s
           ∙ ap (option_map (λ cap. cap * self.scale - kept_load cmp component us s)) has ∙ ap Some left;
