@@ -299,11 +299,21 @@ impl<P: Peer> Waiting<P> {
         ensures before_told { self.new.before.told ≡ self.old.told }
     {
         if self.given_up {
-            self.slots = Slots::new(self.alloc);
-            self.given_up = false;
+            self.begin_anew();
         } else {
             self.slots.commit();
         }
+    }
+
+    /// A mark is set where no message waits. Its own function, since the slots that go take room on the stack.
+    #[inline(never)]
+    fn begin_anew(&mut self)
+        ensures messages { self.new.messages ≡ [] }
+        ensures told { self.new.told ≡ [] }
+        ensures before { self.new.before ≡ none_waits }
+    {
+        self.slots = Slots::new(self.alloc);
+        self.given_up = false;
     }
 
     /// It is taken back to how it stood at the last mark. It takes no memory.
