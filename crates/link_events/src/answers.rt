@@ -1,5 +1,5 @@
 //! Calls on the state that is worked on, with their answers.
-ghost use Rattle.std.specs.Prelude.{◌≡◌, map, IfOk, IfErr};
+ghost use Rattle.std.specs.Prelude.{◌≡◌, [], map, IfOk, IfErr, OnOk};
 ghost use Rattle.link_simulation.specs.Simulation.World.{goes};
 ghost use Rattle.std.specs.Result.{result_map_both};
 ghost use Rattle.link_simulation.specs.Simulation.Calls.{call_limit, call_limit_link, call_enqueue};
@@ -33,19 +33,23 @@ impl<P: Peer> Ledger<P> {
         ensures before { before_of self.new ≡ before_of self.old }
         ensures refused { IfErr result (MayBeRefused P.cmp (planned P.cmp self.old) (call_at M.bytes now change.entry)) }
     {
-        let (ended, events) = self.obey(now, change)?;
+        let mut ended = self.spare_ended.take(self.alloc);
+        let events = self.obey(now, change, &mut ended)?;
         let completions = answers_of(self.alloc, &ended)?;
+        self.spare_ended.keep(ended);
         Ok((completions, events))
     }
 
-    /// Makes a change at `now`. What is done is answered, with the number of events of an advance.
+    /// Makes a change at `now`. What is done is listed, and the number of events of an advance answered.
     fn obey<M: Payload>(
         &mut self,
         now: u64,
         change: Change<'_, P, M>,
-    ) -> Result<(Vec<Ended<P>>, u128), Error>
-        ensures obeys { IfOk result (λ answer. ObeysIn P.cmp (planned P.cmp self.old) (call_at M.bytes now change.entry)
-            answer.1 (goes (map ended_of answer.0.items) (planned P.cmp self.new))) }
+        ended: &mut Vec<Ended<P>>,
+    ) -> Result<u128, Error>
+        requires { ended.old.items ≡ [] }
+        ensures obeys { IfOk result (λ events. ObeysIn P.cmp (planned P.cmp self.old) (call_at M.bytes now change.entry)
+            events (goes (map ended_of ended.new.items) (planned P.cmp self.new))) }
         ensures before { before_of self.new ≡ before_of self.old }
         ensures refused { IfErr result (MayBeRefused P.cmp (planned P.cmp self.old) (call_at M.bytes now change.entry)) }
     {
@@ -54,15 +58,15 @@ impl<P: Peer> Ledger<P> {
                 peer,
                 egress,
                 ingress,
-            } => uncounted(self.limit(now, peer, egress, ingress)),
+            } => uncounted(self.limit(now, peer, egress, ingress, ended)),
             Change::LimitLink {
                 origin,
                 recipient,
                 cap,
-            } => uncounted(self.limit_link(now, origin, recipient, cap)),
-            Change::Enqueue(message) => uncounted(self.send(now, message)),
-            Change::EnqueueAll(messages) => uncounted(self.enqueue_all(now, messages)),
-            Change::Advance => self.advance(now),
+            } => uncounted(self.limit_link(now, origin, recipient, cap, ended)),
+            Change::Enqueue(message) => uncounted(self.send(now, message, ended)),
+            Change::EnqueueAll(messages) => uncounted(self.enqueue_all(now, messages, ended)),
+            Change::Advance => self.advance(now, ended),
         }
     }
 
@@ -73,15 +77,17 @@ impl<P: Peer> Ledger<P> {
         peer: &P,
         egress: Option<usize>,
         ingress: Option<usize>,
-    ) -> Result<Vec<Ended<P>>, Error>
-        ensures rebalances { IfOk result (λ ended. Obeys P.cmp (planned P.cmp self.old)
-            (call_limit now peer.now egress ingress) (goes (map ended_of ended.items) (planned P.cmp self.new))) }
+        ended: &mut Vec<Ended<P>>,
+    ) -> Result<(), Error>
+        requires { ended.old.items ≡ [] }
+        ensures rebalances { OnOk result (Obeys P.cmp (planned P.cmp self.old)
+            (call_limit now peer.now egress ingress) (goes (map ended_of ended.new.items) (planned P.cmp self.new))) }
         ensures before { before_of self.new ≡ before_of self.old }
         ensures refused { IfErr result (MayBeRefused P.cmp (planned P.cmp self.old)
             (call_limit now peer.now egress ingress)) }
     {
         self.limit_peer(peer, egress, ingress)?;
-        self.rebalance(now)
+        self.rebalance(now, ended)
     }
 
     /// Sets the cap of an ordered pair, and what is done under it completes.
@@ -91,16 +97,18 @@ impl<P: Peer> Ledger<P> {
         origin: &P,
         recipient: &P,
         cap: Option<usize>,
-    ) -> Result<Vec<Ended<P>>, Error>
-        ensures rebalances { IfOk result (λ ended. Obeys P.cmp (planned P.cmp self.old)
+        ended: &mut Vec<Ended<P>>,
+    ) -> Result<(), Error>
+        requires { ended.old.items ≡ [] }
+        ensures rebalances { OnOk result (Obeys P.cmp (planned P.cmp self.old)
             (call_limit_link now origin.now recipient.now cap)
-            (goes (map ended_of ended.items) (planned P.cmp self.new))) }
+            (goes (map ended_of ended.new.items) (planned P.cmp self.new))) }
         ensures before { before_of self.new ≡ before_of self.old }
         ensures refused { IfErr result (MayBeRefused P.cmp (planned P.cmp self.old)
             (call_limit_link now origin.now recipient.now cap)) }
     {
         self.limit_pair(origin, recipient, cap)?;
-        self.rebalance(now)
+        self.rebalance(now, ended)
     }
 
     /// Sends a message.
@@ -108,25 +116,27 @@ impl<P: Peer> Ledger<P> {
         &mut self,
         now: u64,
         message: Outgoing<P, M>,
-    ) -> Result<Vec<Ended<P>>, Error>
-        ensures enqueues { IfOk result (λ ended. Obeys P.cmp (planned P.cmp self.old)
+        ended: &mut Vec<Ended<P>>,
+    ) -> Result<(), Error>
+        requires { ended.old.items ≡ [] }
+        ensures enqueues { OnOk result (Obeys P.cmp (planned P.cmp self.old)
             (call_enqueue now (outgoing_by M.bytes message))
-            (goes (map ended_of ended.items) (planned P.cmp self.new))) }
+            (goes (map ended_of ended.new.items) (planned P.cmp self.new))) }
         ensures before { before_of self.new ≡ before_of self.old }
         ensures refused { IfErr result (MayBeRefused P.cmp (planned P.cmp self.old)
             (call_enqueue now (outgoing_by M.bytes message))) }
     {
         let is_busy = self.has_to_wait(&message.origin, &message.recipient);
-        self.enqueue(now, message.into_message(), is_busy)
+        self.enqueue(now, message.into_message(), is_busy, ended)
     }
 }
 
 /// What is answered at a call that counts no events.
-fn uncounted<T>(answer: Result<T, Error>) -> Result<(T, u128), Error>
-    ensures { result ≡ result_map_both (λ done. (done, 0)) (λ e. e) answer }
+fn uncounted(answer: Result<(), Error>) -> Result<u128, Error>
+    ensures { result ≡ result_map_both (λ done. 0) (λ e. e) answer }
 {
     match answer {
-        Ok(done) => Ok((done, 0)),
+        Ok(()) => Ok(0),
         Err(error) => Err(error),
     }
 }

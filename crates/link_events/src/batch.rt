@@ -1,5 +1,5 @@
 //! A list of messages that are sent at one moment, with one account for those that only start.
-ghost use Rattle.std.specs.Prelude.{◌≡◌, ◌<◌, true, false, map, IfOk, IfErr, OnOk, ◌&&◌};
+ghost use Rattle.std.specs.Prelude.{◌≡◌, ◌<◌, true, false, [], map, IfOk, IfErr, OnOk, ◌&&◌};
 ghost use Rattle.link_simulation.specs.Simulation.World.{goes, meets};
 ghost use Rattle.link_simulation.specs.Simulation.RefusalCauses.{IsRefusedFor};
 ghost use Rattle.link_simulation.specs.Rule.Planned.{Planned as AnyPlanned};
@@ -61,20 +61,20 @@ impl<P: Peer> Ledger<P> {
         &mut self,
         now: u64,
         messages: Vec<Outgoing<P, M>>,
-    ) -> Result<Vec<Ended<P>>, Error>
-        ensures enqueues { IfOk result (λ ended. EnqueuesEach P.cmp now (map (outgoing_by M.bytes) messages.items)
-            (planned P.cmp self.old) (goes (map ended_of ended.items) (planned P.cmp self.new))) }
+        ended: &mut Vec<Ended<P>>,
+    ) -> Result<(), Error>
+        requires { ended.old.items ≡ [] }
+        ensures enqueues { OnOk result (EnqueuesEach P.cmp now (map (outgoing_by M.bytes) messages.items)
+            (planned P.cmp self.old) (goes (map ended_of ended.new.items) (planned P.cmp self.new))) }
         ensures before { before_of self.new ≡ before_of self.old }
         ensures refused { IfErr result (IsRefusedFor (λ fault. EnqueuesEach P.cmp now
             (map (outgoing_by M.bytes) messages.items) (planned P.cmp self.old) (meets fault))) }
     {
-        let mut ended = Vec::new(self.alloc);
         let mut standing = Standing::Open;
         for message in messages {
-            standing = self.enqueue_next(now, message.into_message(), standing, &mut ended)?;
+            standing = self.enqueue_next(now, message.into_message(), standing, ended)?;
         }
-        self.catch_up(now, standing)?;
-        Ok(ended)
+        self.catch_up(now, standing)
     }
 
     /// The next message is sent. Where it only starts, the account that it asks for is left due.
@@ -123,8 +123,7 @@ impl<P: Peer> Ledger<P> {
     {
         self.catch_up(now, standing)?;
         let starts = self.starts_at_once(&message, now);
-        let mut more = self.enqueue(now, message, false)?;
-        ended.append(&mut more)?;
+        self.enqueue(now, message, false, ended)?;
         Ok(standing.after(starts))
     }
 

@@ -1,6 +1,6 @@
 //! The event rule: what calls do, at any moments.
 ghost use Rattle.std.specs.Prelude.{◌≡◌, ◌↔◌, ℕ, ◌+◌, nat_lt, if◌then◌else◌, List, [], ◌∷◌, ◌++◌, map};
-ghost use Rattle.std.specs.Prelude.{true, false, IfOk, IfErr, ◌&&◌, is_some, is_none};
+ghost use Rattle.std.specs.Prelude.{true, false, IfOk, IfErr, OnOk, ◌&&◌, is_some, is_none};
 ghost use Rattle.link_simulation.specs.Simulation.World.{Completed, goes, meets, last_moment, later_of as latest};
 ghost use Rattle.link_simulation.specs.Simulation.World.{is_late};
 ghost use Rattle.link_simulation.specs.Simulation.World.{completed};
@@ -244,32 +244,33 @@ impl<P: Peer> Ledger<P> {
             self.plan_start(now);
             return Ok(());
         }
-        let ready = self.ready(now)?;
+        let room = self.spare_ready.take(self.alloc);
+        let ready = self.ready(now, room)?;
         for pair in &ready {
             let queue = self.launch(&pair.origin, &pair.recipient, now)?;
             self.finish(queue, now, ended)?;
         }
+        self.spare_ready.keep(ready);
         self.plan_start(now);
         Ok(())
     }
 
     /// What is done under new caps completes.
-    pub(crate) fn rebalance(&mut self, now: u64) -> Result<Vec<Ended<P>>, Error>
-        requires { (planned P.cmp self.old).limited ≡ true }
-        ensures rebalances { IfOk result (λ ended. Rebalances P.cmp now (planned P.cmp self.old).caps
+    pub(crate) fn rebalance(&mut self, now: u64, ended: &mut Vec<Ended<P>>) -> Result<(), Error>
+        requires limited { (planned P.cmp self.old).limited ≡ true }
+        requires empty { ended.old.items ≡ [] }
+        ensures rebalances { OnOk result (Rebalances P.cmp now (planned P.cmp self.old).caps
             (planned P.cmp self.old)
-            (goes (map ended_of ended.items) (planned P.cmp self.new))) }
+            (goes (map ended_of ended.new.items) (planned P.cmp self.new))) }
         ensures before { before_of self.new ≡ before_of self.old }
         ensures refused { IfErr result (IsRefusedFor
             (λ fault. Rebalances P.cmp now (planned P.cmp self.old).caps (planned P.cmp self.old) (meets fault))) }
     {
         if self.flights.is_empty() {
             self.plan_start(now);
-            return Ok(Vec::new(self.alloc));
+            return Ok(());
         }
-        let mut ended = Vec::new(self.alloc);
-        self.settle(now, &mut ended)?;
-        Ok(ended)
+        self.settle(now, ended)
     }
 
     /// A message is sent. Under limits it is known whether one of its pair is in flight.
@@ -278,23 +279,22 @@ impl<P: Peer> Ledger<P> {
         now: u64,
         message: Message<P>,
         is_busy: bool,
-    ) -> Result<Vec<Ended<P>>, Error>
+        ended: &mut Vec<Ended<P>>,
+    ) -> Result<(), Error>
         requires { (planned P.cmp self.old).limited ≡ true
             → is_sending P.cmp (planned P.cmp self.old) message.origin message.recipient ≡ is_busy }
-        ensures enqueues { IfOk result (λ ended. Enqueues P.cmp now (message_of message) (planned P.cmp self.old)
-            (goes (map ended_of ended.items) (planned P.cmp self.new))) }
+        ensures enqueues { IfOk result (λ done. (cs : List (Completed P))
+            × (map ended_of ended.new.items ≡ map ended_of ended.old.items ++ cs)
+            × Enqueues P.cmp now (message_of message) (planned P.cmp self.old) (goes cs (planned P.cmp self.new))) }
         ensures before { before_of self.new ≡ before_of self.old }
         ensures refused { IfErr result (IsRefusedFor
             (λ fault. Enqueues P.cmp now (message_of message) (planned P.cmp self.old) (meets fault))) }
     {
-        let mut ended = Vec::new(self.alloc);
         if !self.limited {
-            self.complete_at_once(now, message, &mut ended)?;
-            return Ok(ended);
+            return self.complete_at_once(now, message, ended);
         }
         let queue = self.launch_sent(now, message, is_busy)?;
-        self.finish(queue, now, &mut ended)?;
-        Ok(ended)
+        self.finish(queue, now, ended)
     }
 
     /// Whether a message of the pair has to wait: limits hold, and one of the pair is in flight.
@@ -416,25 +416,24 @@ impl<P: Peer> Ledger<P> {
         self.plan_start(now);
     }
 
-    /// All events up to `now` happen, and what is ready then starts. Answers the number of events,
-    /// too.
-    pub(crate) fn advance(&mut self, now: u64) -> Result<(Vec<Ended<P>>, u128), Error>
-        ensures advances { IfOk result (λ answer. Advances P.cmp now (planned P.cmp self.old) answer.1
-            (goes (map ended_of answer.0.items) (planned P.cmp self.new))) }
+    /// All events up to `now` happen, and what is ready then starts. Answers the number of events.
+    pub(crate) fn advance(&mut self, now: u64, ended: &mut Vec<Ended<P>>) -> Result<u128, Error>
+        requires { ended.old.items ≡ [] }
+        ensures advances { IfOk result (λ events. Advances P.cmp now (planned P.cmp self.old) events
+            (goes (map ended_of ended.new.items) (planned P.cmp self.new))) }
         ensures before { before_of self.new ≡ before_of self.old }
         ensures refused { IfErr result (IsRefusedFor
             (λ fault. (n : ℕ) × Advances P.cmp now (planned P.cmp self.old) n (meets fault))) }
     {
-        let mut ended = Vec::new(self.alloc);
         // So few are in flight, and wait, that their events can be counted.
         let _sending = self.flights.len();
         let _waiting = self.waiting.len();
         let mut events = 0u128;
         while let Some(event) = self.due(now) {
-            self.happen(event, &mut ended)?;
+            self.happen(event, ended)?;
             events += 1;
         }
-        self.wake(now, &mut ended)?;
-        Ok((ended, events))
+        self.wake(now, ended)?;
+        Ok(events)
     }
 }

@@ -9,11 +9,14 @@ ghost use Rattle.link_flights.specs.Flights.Rated.{WereRatedUnder};
 ghost use Rattle.link_simulation.specs.Rule.Planned.{rated_messages};
 ghost use Rattle.link_simulation.specs.Simulation.Messages.{OneForEachPair};
 
+use crate::spare::Spare;
 use fairness::error::Error;
 use fairness::peer::Peer;
 use link_flights::flight_list::Flights;
 use link_flights::notes::Rooms;
+use link_pairs::completion::Ended;
 use link_pairs::known_pairs::Pairs;
+use link_pairs::pair::PeerPair;
 use link_pairs::peers::Peers;
 use link_waiting::waiting::Waiting;
 use std::alloc::Global;
@@ -35,6 +38,10 @@ pub struct Ledger<P: Peer> {
     pub(crate) start: Option<u64>,
     /// Room for what an event needs to find rates.
     pub(crate) rooms: Rooms<P>,
+    /// Room for what ends.
+    pub(crate) spare_ended: Spare<Ended<P>>,
+    /// Room for the pairs that are ready.
+    pub(crate) spare_ready: Spare<PeerPair<P>>,
     /// Whether all have to be rated at the next account: it was refused, or what a changed cap was about is limited no more.
     pub(crate) stale: bool,
     pub ghost indexed: { IsIndexOf P.cmp (of_pairs P.cmp pairs.entries waiting.messages
@@ -57,6 +64,8 @@ impl<P: Peer> Drop for Ledger<P> {
             finish: _,
             start: _,
             rooms,
+            spare_ended,
+            spare_ready,
             stale: _,
         } = self;
         drop(peers);
@@ -64,6 +73,8 @@ impl<P: Peer> Drop for Ledger<P> {
         drop(waiting);
         drop(flights);
         drop(rooms);
+        drop(spare_ended);
+        drop(spare_ready);
     }
 }
 
@@ -89,6 +100,8 @@ impl<P: Peer> Ledger<P> {
             finish: None,
             start: None,
             rooms: Rooms::new(alloc),
+            spare_ended: Spare::new(alloc),
+            spare_ready: Spare::new(alloc),
             stale: true,
         }
     }

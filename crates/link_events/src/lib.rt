@@ -18,4 +18,5 @@ pub mod outgoing;
 mod plans;
 mod readiness;
 mod settling;
+mod spare;
 mod through;

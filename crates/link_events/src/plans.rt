@@ -186,12 +186,12 @@ impl<P: Peer> Ledger<P> {
         }
     }
 
-    /// The idle pairs that are ready, in the order of pairs.
-    pub(crate) fn ready(&self, now: u64) -> Result<Vec<PeerPair<P>>, Error>
+    /// The idle pairs that are ready, in the order of pairs. They are listed in room that is given.
+    pub(crate) fn ready(&self, now: u64, room: Vec<PeerPair<P>>) -> Result<Vec<PeerPair<P>>, Error>
         ensures ready { IfOk result (λ keys. AllZip (NamesPairOf P.cmp) keys.items
             (ready_messages P.cmp now (planned P.cmp self.now))) }
         ensures refused { IfErr result (λ e. e ≡ Error.OutOfMemory) }
     {
-        self.waiting.ready(self.alloc, now)
+        self.waiting.ready(now, room)
     }
 }

@@ -112,13 +112,17 @@ impl<P: Drop> Rooms<P> {
         ensures { result.items ≡ [] }
     {
         let mut queue = mem::replace(&mut self.queue, VecDeque::new(alloc));
-        queue.clear();
+        if !queue.is_empty() {
+            queue.clear();
+        }
         queue
     }
 
-    /// The room for what is done is kept. What stands in it is let go when it is taken out.
+    /// The room for what is done is kept, if there is any. What stands in it is let go when it is taken out.
     pub fn keep_queue(&mut self, queue: VecDeque<Arc<Message<P>>>) {
-        self.queue = queue;
+        if queue.capacity() > 0 {
+            self.queue = queue;
+        }
     }
 
     /// The room of places and of their numbers is kept.

@@ -370,11 +370,20 @@ impl<P: Peer> Table<P> {
         ensures before { self.new.before ≡ self.old.items }
     {
         if self.given_up {
-            self.rows = RowTable::new(self.alloc);
-            self.given_up = false;
+            self.begin_anew();
         } else {
             self.rows.commit();
         }
+    }
+
+    /// A mark is set where nothing is in flight. Its own function, since the table that goes takes room on the stack.
+    #[inline(never)]
+    fn begin_anew(&mut self)
+        ensures items { self.new.items ≡ [] }
+        ensures before { self.new.before ≡ [] }
+    {
+        self.rows = RowTable::new(self.alloc);
+        self.given_up = false;
     }
 
     /// It is taken back to how it stood at the last mark.

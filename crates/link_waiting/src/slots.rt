@@ -279,14 +279,15 @@ impl<P: Peer> Slots<P> {
         Ok(since)
     }
 
-    /// The pairs of which a moment was told that has come by now, their peers cloned.
-    pub(crate) fn due(&self, alloc: Global, now: u64) -> Result<Vec<PeerPair<P>>, Error>
-        requires { Stands self.now }
+    /// The pairs of which a moment was told that has come by now, their peers cloned. They are listed in room
+    /// that is given.
+    pub(crate) fn due(&self, now: u64, mut due: Vec<PeerPair<P>>) -> Result<Vec<PeerPair<P>>, Error>
+        requires stands { Stands self.now }
+        requires empty { due.items ≡ [] }
         ensures due { IfOk result (λ keys. AllZip (λ key waiter. NamesPairOf P.cmp key waiter.message) keys.items
             (due_below now self.now.sinces.items (length self.now.sinces.items) (live self.now.slots.items))) }
         ensures refused { IfErr result (λ e. e ≡ Error.OutOfMemory) }
     {
-        let mut due = Vec::new(alloc);
         let end = self.moments.len();
         let mut next = self.moments.next_due(0, now);
         while let Some(pair) = next {

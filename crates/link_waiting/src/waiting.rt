@@ -170,8 +170,9 @@ impl<P: Peer> Waiting<P> {
         self.slots.moments.least()
     }
 
-    /// The pairs whose first waiting message may start by now, in the order of pairs, the peers cloned.
-    pub fn ready(&self, alloc: Global, now: u64) -> Result<Vec<PeerPair<P>>, Error>
+    /// The pairs whose first waiting message may start by now, in the order of pairs, the peers cloned. They
+    /// are listed in room that is given.
+    pub fn ready(&self, now: u64, mut room: Vec<PeerPair<P>>) -> Result<Vec<PeerPair<P>>, Error>
         ensures ascending { IfOk result (λ keys. are_ascending (pair_cmp P.cmp) (map pair_of_key keys.items) ≡ true) }
         ensures ready { IfOk result (λ keys. (origin recipient : P)
             → list_any (λ key. same_peer P.cmp origin key.origin && same_peer P.cmp recipient key.recipient) keys.items
@@ -179,10 +180,11 @@ impl<P: Peer> Waiting<P> {
         ensures ordered { AreInPairOrder P.cmp self.now.messages }
         ensures refused { IfErr result (λ e. e ≡ Error.OutOfMemory) }
     {
+        room.clear();
         if self.given_up {
-            return Ok(Vec::new(alloc));
+            return Ok(room);
         }
-        let mut ready = self.slots.due(alloc, now)?;
+        let mut ready = self.slots.due(now, room)?;
         ready.sort_by(|key, other| {
             key.origin
                 .cmp(&other.origin)
@@ -297,11 +299,21 @@ impl<P: Peer> Waiting<P> {
         ensures before_told { self.new.before.told ≡ self.old.told }
     {
         if self.given_up {
-            self.slots = Slots::new(self.alloc);
-            self.given_up = false;
+            self.begin_anew();
         } else {
             self.slots.commit();
         }
+    }
+
+    /// A mark is set where no message waits. Its own function, since the slots that go take room on the stack.
+    #[inline(never)]
+    fn begin_anew(&mut self)
+        ensures messages { self.new.messages ≡ [] }
+        ensures told { self.new.told ≡ [] }
+        ensures before { self.new.before ≡ none_waits }
+    {
+        self.slots = Slots::new(self.alloc);
+        self.given_up = false;
     }
 
     /// It is taken back to how it stood at the last mark. It takes no memory.

@@ -13,22 +13,19 @@ obeys_in cmp p (call_advance now) events course h = (events, h)
 obeys_in cmp p call events course h = h
 
 -- what is done at a call that counts no events is answered with none
-pub uncounted_ok : {A : Type 0} (done : Result A Error) (result : Result (A × ℕ) Error)
-    → result ≡ result_map_both (λ a. (a, 0)) (λ e. e) done → (F : A → ℕ → Type 0) → IfOk done (λ a. F a 0)
-    → IfOk result (λ r. F r.0 r.1)
-uncounted_ok {A} done result is F h = subst (λ r. IfOk r (λ r. F r.0 r.1)) (sym is) (counted done h)
+pub uncounted_ok : {A : Type 0} (done : Result A Error) (result : Result ℕ Error)
+    → result ≡ result_map_both (λ a. 0) (λ e. e) done → (F : ℕ → Type 0) → IfOk done (λ a. F 0) → IfOk result F
+uncounted_ok {A} done result is F h = subst (λ r. IfOk r F) (sym is) (counted done h)
   where
-    counted : (done : Result A Error) → IfOk done (λ a. F a 0)
-        → IfOk (result_map_both {U = A × ℕ} (λ a. (a, 0)) (λ e. e) done) (λ r. F r.0 r.1)
+    counted : (done : Result A Error) → IfOk done (λ a. F 0) → IfOk (result_map_both {U = ℕ} (λ a. 0) (λ e. e) done) F
     counted (Ok a) h = h
     counted (Err e) h = tt
 
 -- and refused as it is
-pub uncounted_err : {A : Type 0} (done : Result A Error) (result : Result (A × ℕ) Error)
-    → result ≡ result_map_both (λ a. (a, 0)) (λ e. e) done → (F : Error → Type 0) → IfErr done F → IfErr result F
+pub uncounted_err : {A : Type 0} (done : Result A Error) (result : Result ℕ Error)
+    → result ≡ result_map_both (λ a. 0) (λ e. e) done → (F : Error → Type 0) → IfErr done F → IfErr result F
 uncounted_err {A} done result is F h = subst (λ r. IfErr r F) (sym is) (refused done h)
   where
-    refused : (done : Result A Error) → IfErr done F
-        → IfErr (result_map_both {U = A × ℕ} (λ a. (a, 0)) (λ e. e) done) F
+    refused : (done : Result A Error) → IfErr done F → IfErr (result_map_both {U = ℕ} (λ a. 0) (λ e. e) done) F
     refused (Ok a) h = tt
     refused (Err e) h = h

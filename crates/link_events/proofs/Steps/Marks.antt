@@ -37,6 +37,8 @@ same_ledger {P} {a} old new peers pairs waiting flights limited next_id finish s
   finish = finish i;
   start = start i;
   rooms = tt;
+  spare_ended = tt;
+  spare_ready = tt;
   stale = stale i;
   indexed =
       is_prop→PathP

@@ -65,12 +65,9 @@ module _ {P : Type 0} (cmp : P → P → Ordering) where
       refused_more (λ fault. completed_at_once cmp t p m ≡ meets fault) (λ fault. Enqueues cmp t m p (meets fault))
       (λ fault h. subst (Enqueues cmp t m p) h (at_once free))
 
-  pub enqueues_at_once : (t : ℕ) (m : Message P) (p new : Planned P) (c : Completed P) (out : List (Completed P))
-      → p.limited ≡ false → completed_at_once cmp t p m ≡ goes (c ∷ []) new → out ≡ [] ++ c ∷ []
-      → Enqueues cmp t m p (goes out new)
-  enqueues_at_once t m p new c out free h is =
-      subst (λ (l : List (Completed P)). Enqueues cmp t m p (goes l new)) (sym is)
-      (subst (Enqueues cmp t m p) h (at_once free))
+  pub enqueues_at_once : (t : ℕ) (m : Message P) (p new : Planned P) (c : Completed P) → p.limited ≡ false
+      → completed_at_once cmp t p m ≡ goes (c ∷ []) new → Enqueues cmp t m p (goes (c ∷ []) new)
+  enqueues_at_once t m p new c free h = subst (Enqueues cmp t m p) h (at_once free)
 
   -- the completion of a message before any limit
   pub completes_so : (t : ℕ) (p new : Planned P) (m : Message P) (at : ℕ) (c : Completed P)
@@ -125,11 +122,9 @@ module _ {P : Type 0} (cmp : P → P → Ordering) where
           refused_more (λ fault. Finishes cmp t leavers next (meets fault)) (λ fault. Enqueues cmp t m p (meets fault))
           (λ fault h. launches limited launch h)
 
-      pub enqueues_launched : (new : Planned P) (cs out : List (Completed P)) → Finishes cmp t leavers next (goes cs new)
-          → out ≡ [] ++ cs → Enqueues cmp t m p (goes out new)
-      enqueues_launched new cs out finishes out_is =
-          subst (λ (l : List (Completed P)). Enqueues cmp t m p (goes l new)) (sym out_is)
-          (launches limited launch finishes)
+      pub enqueues_launched : (new : Planned P) (cs : List (Completed P)) → Finishes cmp t leavers next (goes cs new)
+          → Enqueues cmp t m p (goes cs new)
+      enqueues_launched new cs finishes = launches limited launch finishes
 
   module _ (order : IsTotalOrder cmp) where
     -- what is said of the first message of a key's pair in one world is said of a message's pair in an equal one

@@ -1,22 +1,23 @@
-use Rattle.link_events.proofs.Common.{[], ◌∷◌, ◌++◌, map, ap, ◌∙◌, err_from_is_err_and, message_of, ended_of, messages}
+use Rattle.link_events.proofs.Common.{[], ◌∷◌, err_from_is_err_and, message_of, messages}
 use Rattle.link_events.proofs.Common.{planned}
-use Rattle.link_events.proofs.Steps.Settling.{at_once_refused, enqueues_at_once, enqueue_launch_refused}
+use Rattle.link_events.proofs.Steps.Settling.{if_ok, if_err, at_once_refused, enqueues_at_once, enqueue_launch_refused}
 use Rattle.link_events.proofs.Steps.Settling.{enqueue_finish_refused, enqueues_launched}
 use Rattle.link_events.proofs.ledger.Ledger.enqueue.Goals as goal
 
-pub returns-in_err-complete_at_once-clause-refused : goal.returns-in_err-complete_at_once-clause-refused
-returns-in_err-complete_at_once-clause-refused g c =
-    let p = err_from_is_err_and c.from_residual.result c.from_residual.ensures.1 in
-    rw (p.1, p.2)
-    (at_once_refused g.P.Ord.cmp c.args.now (message_of c.args.message) (planned g.P.Ord.cmp c.args.self.now)
-    c.if-not-self.true _ c.in_err-complete_at_once.ensures.refused)
+pub returns-then-not-self-clause-refused : goal.returns-then-not-self-clause-refused
+returns-then-not-self-clause-refused g c =
+    if_err c.complete_at_once.result (at_once_refused g.P.Ord.cmp c.args.now (message_of c.args.message)
+    (planned g.P.Ord.cmp c.args.self.now) c.if-not-self.true) c.complete_at_once.ensures.refused
 
 pub returns-then-not-self-clause-enqueues : goal.returns-then-not-self-clause-enqueues
 returns-then-not-self-clause-enqueues g c =
-    let h = c.in_ok-complete_at_once.ensures.completes in
-    enqueues_at_once g.P.Ord.cmp c.args.now (message_of c.args.message) (planned g.P.Ord.cmp c.args.self.now)
-    (planned g.P.Ord.cmp c.complete_at_once.new.self) h.0 _ c.if-not-self.true h.2
-    (h.1 ∙ ap (λ l. map ended_of l ++ h.0 ∷ []) c.new-ended.ensures.items)
+    if_ok c.complete_at_once.result (λ done h. (
+      h.0 ∷ [],
+      h.1,
+      enqueues_at_once g.P.Ord.cmp c.args.now
+          (message_of c.args.message) (planned g.P.Ord.cmp c.args.self.now) (planned g.P.Ord.cmp c.complete_at_once.new.self)
+          h.0 c.if-not-self.true h.2,
+    )) c.complete_at_once.ensures.completes
 
 -- under limits
 
@@ -25,23 +26,24 @@ launch_sent-requires g c = c.requires c.if-not-self.false
 
 pub returns-in_err-queue-clause-refused : goal.returns-in_err-queue-clause-refused
 returns-in_err-queue-clause-refused g c =
-    let p = err_from_is_err_and c.from_residual-in_err-queue.result c.from_residual-in_err-queue.ensures.1 in
+    let p = err_from_is_err_and c.from_residual.result c.from_residual.ensures.1 in
     rw (p.1, p.2)
     (enqueue_launch_refused g.P.Ord.cmp c.args.now (message_of c.args.message) (planned g.P.Ord.cmp c.args.self.now)
     c.if-not-self.false _ c.in_err-queue.ensures.refused)
 
-pub returns-in_err-finish-clause-refused : goal.returns-in_err-finish-clause-refused
-returns-in_err-finish-clause-refused g c =
-    let p = err_from_is_err_and c.from_residual-in_err-finish.result c.from_residual-in_err-finish.ensures.1 in
-    rw (p.1, p.2)
-    (enqueue_finish_refused g.P.Ord.cmp c.args.now (message_of c.args.message) (planned g.P.Ord.cmp c.args.self.now)
-    c.if-not-self.false (planned g.P.Ord.cmp c.launch_sent.new.self) (messages c.in_ok-queue.queue.items)
-    c.in_ok-queue.ensures.launches _ c.in_err-finish.ensures.refused)
+pub returns-clause-refused : goal.returns-clause-refused
+returns-clause-refused g c =
+    if_err c.finish.result (enqueue_finish_refused g.P.Ord.cmp c.args.now (message_of c.args.message)
+    (planned g.P.Ord.cmp c.args.self.now) c.if-not-self.false (planned g.P.Ord.cmp c.launch_sent.new.self)
+    (messages c.in_ok-queue.queue.items) c.in_ok-queue.ensures.launches) c.finish.ensures.refused
 
 pub returns-clause-enqueues : goal.returns-clause-enqueues
 returns-clause-enqueues g c =
-    let h = c.in_ok-finish.ensures.finishes in
-    enqueues_launched g.P.Ord.cmp c.args.now (message_of c.args.message) (planned g.P.Ord.cmp c.args.self.now)
-    c.if-not-self.false (planned g.P.Ord.cmp c.launch_sent.new.self) (messages c.in_ok-queue.queue.items)
-    c.in_ok-queue.ensures.launches (planned g.P.Ord.cmp c.finish.new.self) h.0 _ h.2
-    (h.1 ∙ ap (λ l. map ended_of l ++ h.0) c.new-ended.ensures.items)
+    if_ok c.finish.result (λ done h. (
+      h.0,
+      h.1,
+      enqueues_launched g.P.Ord.cmp c.args.now (message_of c.args.message)
+          (planned g.P.Ord.cmp c.args.self.now) c.if-not-self.false (planned g.P.Ord.cmp c.launch_sent.new.self)
+          (messages c.in_ok-queue.queue.items) c.in_ok-queue.ensures.launches (planned g.P.Ord.cmp c.finish.new.self) h.0
+          h.2,
+    )) c.finish.ensures.finishes

@@ -5,13 +5,14 @@ use Rattle.std.proofs.lemmas.Iterator.Adapters.{YieldsList-from_vec}
 use Rattle.std.proofs.lemmas.Iterator.Consumers.{YieldsList-end}
 use Rattle.std.specs.Vec.{vec_len}
 use Rattle.link_events.proofs.Steps.Batch.{given_so_far, none_behind}
+use Rattle.link_events.proofs.Steps.Settling.{if_ok}
 use Rattle.link_events.proofs.Steps.Standing.{StandsSo, stands_start, stands_step, stands_refused, stands_end}
 use Rattle.link_events.proofs.ledger.Ledger.enqueue_all.Goals as goal
 
 pub loop-message-init : goal.loop-message-init
 loop-message-init g c = record {
   before = refl;
-  so = rw (c.into_iter-message-iterator.ensures.into_iter_gives.0, c.new-ended.ensures.items)
+  so = rw (c.into_iter-message-iterator.ensures.into_iter_gives.0, c.requires)
       (stands_start g.P.Ord.cmp g.met.P.Ord.total c.args.now (map (outgoing_by g.M.Payload.bytes) c.args.messages.items)
       (planned g.P.Ord.cmp c.args.self.now));
 }
@@ -62,8 +63,8 @@ returns-clause-enqueues g c =
     (sym c.into_iter-message-iterator.ensures.into_iter_gives.0
     ∙ given_so_far c.into_iter-message-iterator.result c.loop-message.yielded c.loop-message.message-iterator
     c.loop-message.yielded_by) (sym end.1) in
-    stands_end g.P.Ord.cmp g.met.P.Ord.total c.args.now (map (outgoing_by g.M.Payload.bytes) c.args.messages.items)
+    if_ok c.catch_up.result (λ done is. stands_end g.P.Ord.cmp g.met.P.Ord.total c.args.now (map (outgoing_by g.M.Payload.bytes) c.args.messages.items)
     (planned g.P.Ord.cmp c.args.self.now) (map (outgoing_by g.M.Payload.bytes) (into_iter_items c.loop-message.message-iterator))
     (planned g.P.Ord.cmp c.loop-message.self) (planned g.P.Ord.cmp c.catch_up.new.self) c.loop-message.standing
     (map ended_of c.loop-message.ended.items) c.loop-message.invariant.so (ap (map (outgoing_by g.M.Payload.bytes)) none)
-    c.in_ok-catch_up.ensures.caught_up
+    is) c.catch_up.ensures.caught_up

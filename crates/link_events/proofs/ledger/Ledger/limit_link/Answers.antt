@@ -8,9 +8,10 @@ pub returns-clause-rebalances : goal.returns-clause-rebalances
 returns-clause-rebalances g c =
     let old = planned g.P.Ord.cmp c.args.self.now in
     let new : Planned g.row.P.Denot = planned g.P.Ord.cmp c.rebalance.new.self in
-    if_ok c.rebalance.result (λ ended h. rebalances_on g.P.Ord.cmp c.args.now
+    if_ok c.rebalance.result (λ done h. rebalances_on g.P.Ord.cmp c.args.now
     (linked_by g.P.Ord.cmp old.caps c.args.origin.now c.args.recipient.now c.args.cap) old
-    (planned g.P.Ord.cmp c.limit_pair.new.self) c.in_ok-limit_pair.ensures.limited (goes (map ended_of ended.items) new) h)
+    (planned g.P.Ord.cmp c.limit_pair.new.self) c.in_ok-limit_pair.ensures.limited (goes (map ended_of c.rebalance.new.ended.items) new)
+    h)
     c.rebalance.ensures.rebalances
 
 pub returns-clause-refused : goal.returns-clause-refused

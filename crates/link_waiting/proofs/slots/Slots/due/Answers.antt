@@ -18,10 +18,10 @@ loop-next-init g c =
     record {
       within = next.ensures.within;
       there = due_of_next c.args.now slots.moments ws 0 next.result next.ensures.some;
-      named = subst (Named g c.new-due.result.items)
+      named = subst (Named g c.args.due.items)
           (sym (up_to_next c.args.now slots.moments ws 0 next.result (omega arith)
           next.ensures.within next.ensures.some next.ensures.none))
-          (subst (λ keys. Named g keys []) (sym c.new-due.ensures.items) tt);
+          (subst (λ keys. Named g keys []) (sym c.requires.empty) tt);
     }
 
 module _ (g : Over) (c : goal.After-next_due-next-in-Some g) where
@@ -70,7 +70,7 @@ pub returns-clause-due : goal.returns-clause-due
 returns-clause-due g c =
     let slots = c.args.self.now in
     subst (λ (moments : List (Option ℕ)). Named g c.loop-next.due.items
-    (due_below c.args.now moments (length moments) (live slots.slots.items))) c.requires.moments
+    (due_below c.args.now moments (length moments) (live slots.slots.items))) c.requires.stands.moments
     (subst (λ (next : Option ℕ). Named g c.loop-next.due.items
     (due_below c.args.now slots.moments (unwrap_or next (length slots.moments)) (live slots.slots.items))) c.in_default.is
     c.loop-next.invariant.named)
