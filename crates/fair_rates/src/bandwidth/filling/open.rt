@@ -4,7 +4,7 @@ ghost use Rattle.std.specs.Ordering.{nat_cmp};
 ghost use Rattle.fairness.specs.Numbers.Fraction.{fraction_cmp};
 
 use super::risers::{are_frozen, take_frozen};
-use super::share::{Share, whole_share};
+use super::share::{Share, share_of, whole_share};
 use natural::Natural;
 use std::alloc::{AllocError, Global};
 use std::cmp::Ordering;
@@ -135,15 +135,19 @@ impl OpenSide {
         Ok(())
     }
 
-    /// What each of the rising users gets. Nothing is left of the slack then.
+    /// What each of the rising users gets. What is left of the slack then says nothing.
     pub(crate) fn take_share(&mut self, alloc: Global) -> Result<Share, AllocError>
         ensures rising { OnOk result (self.new.rising.items ≡ self.old.rising.items) }
         ensures factor { IfOk result (λ share. 0 < share.factor) }
         ensures whole { IfOk result (λ share.
             share.parts * length self.old.rising.items ≡ self.old.slack * share.factor) }
     {
-        let slack = mem::replace(&mut self.slack, Natural::from_u64(alloc, 0));
         let count = self.rising.len() as u64;
+        if self.share.shift == 0 {
+            let quotient = Natural::from_u128(alloc, self.share.quotient);
+            return share_of(alloc, quotient, self.share.rest, count);
+        }
+        let slack = mem::replace(&mut self.slack, Natural::from_u64(alloc, 0));
         self.share = rounded(&self.slack, count);
         whole_share(alloc, slack, count)
     }
