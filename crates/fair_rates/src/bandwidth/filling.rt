@@ -110,10 +110,12 @@ fn keep_list(lists: &mut Vec<Vec<usize>>, list: Vec<usize>) {
     }
 }
 
-/// The box of a side that is done is kept, unless many are, or there is no memory to note it.
+/// The box of a side that is done is kept with its list of users, unless that is large or many boxes are, or there is no
+/// memory to note it.
 #[inline(always)]
 fn keep_box(boxes: &mut Vec<BoxedSide>, side: BoxedSide) {
-    if boxes.len() < MANY && boxes.reserve(1).is_ok() {
+    let few = side.get().rising.capacity() <= FEW_USERS;
+    if few && boxes.len() < MANY && boxes.reserve(1).is_ok() {
         boxes.push_reserved(side);
     }
 }
