@@ -4,7 +4,7 @@ use Rattle.fair_rates.proofs.Common.{Option, Some, None, IsSome, sym, ap, subst,
 use Rattle.fair_rates.proofs.Common.{All-append, All-contains, All-weaker, Contains-append_right, All-permutation}
 use Rattle.fair_rates.proofs.Common.{Contains-permutation, IsPermutation-sym, Side, load, at_level, AllRise, AllFrozen}
 use Rattle.fair_rates.proofs.Common.{IsWithinSlack, HaveNoMore, KeepsAccount, IsOpen, IsCovered, IsQueue, AreAbove}
-use Rattle.fair_rates.proofs.Common.{OpenSide, rules}
+use Rattle.fair_rates.proofs.Common.{OpenSide, rules, ◌∙◌}
 use Rattle.std.proofs.Common.{le_of_mul-le-mul_right}
 use Rattle.fairness.proofs.Lists.SumOrder.{All-from_contains}
 use Rattle.fair_rates.proofs.Filling.Account.{has_room, is_full}
@@ -27,7 +27,10 @@ module _ (sides : List Side) (scale : ℕ) (frozen after : ℕ → Option ℕ) (
     (freezes : Freezes x.0.rising.items frozen after level) where
   -- who was frozen stays so
   kept : (flow parts : ℕ) → frozen flow ≡ Some parts → after flow ≡ Some parts
-  kept flow parts e = search (rules, All-contains)
+  kept flow parts e = elim (freezes.others flow) [
+    | inr same ↦ same ∙ e
+    | inl used ↦ let none = All-contains (λ j. frozen j ≡ None) x.0.rising.items flow rise used in absurd (cc)
+  ]
 
   fresh : (flow parts : ℕ) → frozen flow ≡ None → after flow ≡ Some parts
       → (parts ≡ level) × Contains x.0.rising.items flow

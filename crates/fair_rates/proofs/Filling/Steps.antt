@@ -5,6 +5,7 @@ use Rattle.fair_rates.proofs.Common.{mul-le-mul_right, option_map, unwrap_or, sl
 use Rattle.fair_rates.proofs.Common.{cases_lt, length-map, get_or_past, All-head, All-weaker, All-contains, Side}
 use Rattle.fair_rates.proofs.Common.{IsLimited, IsFair, level_at, flow_parts, frozen_at, at_level, top, AllRise}
 use Rattle.fair_rates.proofs.Common.{IsRaised, AreAtTop, HaveNoMore, IsQueue, IsShareQueue, AreAbove, AllFilled}
+use Rattle.std.proofs.Common.{◌%◌}
 use Rattle.fair_rates.proofs.Common.{AreGrown, queue_cmp, OpenSide, rules}
 use Rattle.std.proofs.Common.{le_of_mul-le-mul_right}
 use Rattle.std.specs.Prelude.{◌↔◌, replicate}
@@ -97,10 +98,14 @@ module _ (sides : List Side) (scale factor : ℕ) (levels after : List ℕ) (lev
     0 = record {
       slack = x.slack * factor;
       rising = x.rising;
-      quotient = x.slack * factor / (2 ^ (64 * 0) * length x.rising.items);
-      shift = 0;
+      share = record {
+        shift = 0;
+        quotient = x.slack * factor / (2 ^ (64 * 0) * length x.rising.items);
+        rest = x.slack * factor / 2 ^ (64 * 0) % length x.rising.items;
+      };
       some = x.some;
       rounded = refl;
+      left = refl;
     };
   }
 

@@ -74,6 +74,15 @@ pub record KeepsAccount (side : Side) (scale : ℕ) (frozen : ℕ → Option ℕ
   pub done : AllFrozen frozen counted
   pub left : slack + sum_by (at_level frozen 0) counted ≡ side.cap * scale
 
+-- of a side that left so much for some users, more of these are counted
+pub record HaveBeenCounted (flows : ℕ) (frozen : ℕ → Option ℕ) (before : ℕ) (had : List ℕ)
+    (slack : ℕ) (rising : List ℕ) : Type 0 where
+  pub account : (side : Side) (scale : ℕ) → KeepsAccount side scale frozen before had
+      → KeepsAccount side scale frozen slack rising
+  pub users : All (λ flow. flow < flows) rising
+  pub no_lower : (parts : ℕ) → IsWithinSlack parts before had → IsWithinSlack parts slack rising
+  pub changed : (length rising < length had) ⊎ ((slack ≡ before) × (length rising ≡ length had))
+
 -- the open side keeps account of one of the sides
 abbrev pub IsOpen : List Side → ℕ → (ℕ → Option ℕ) → Reverse OpenSide → Type 0
 IsOpen sides scale frozen open_side =

@@ -16,14 +16,16 @@ ghost use Rattle.fair_rates.specs.Filling.States.{frozen_at, AreInside, AreAbove
 ghost use Rattle.fairness.specs.Filling.Frozen.{AllFilled};
 ghost use Rattle.fair_rates.specs.Filling.States.{AreOpened, AreGrown, AreFilled, HaveNoLessShare, queue_cmp, rises};
 
+mod boxed;
 mod open;
+mod risers;
 mod share;
 
 use crate::bandwidth::parts::FairParts;
 use crate::bandwidth::sides::Side;
+use boxed::BoxedSide;
 use natural::Natural;
 use open::OpenSide;
-use share::whole_share;
 use std::alloc::{AllocError, Global};
 use std::cmp::Reverse;
 use std::collections::BinaryHeap;
@@ -32,13 +34,15 @@ use std::mem;
 /// Room for so many users of a side is kept. To fill more takes longer than to get room for them.
 const FEW_USERS: usize = 64;
 
-/// So many lists of users are kept.
-const MANY_LISTS: usize = 1024;
+/// So many lists of users are kept, and so many boxes of sides.
+const MANY: usize = 1024;
 
 /// Lists that filling needs, kept from one filling to the next. What they hold says nothing.
 pub struct Room {
-    opens: Vec<Reverse<OpenSide>>,
-    spare: Vec<Reverse<OpenSide>>,
+    opens: Vec<Reverse<BoxedSide>>,
+    spare: Vec<Reverse<BoxedSide>>,
+    /// Boxes of sides that are done, to be used again.
+    boxes: Vec<BoxedSide>,
     found: FairParts,
     /// For the users of a side.
     lists: Vec<Vec<usize>>,
@@ -50,11 +54,13 @@ impl Drop for Room {
         let Room {
             opens,
             spare,
+            boxes,
             found,
             lists,
         } = self;
         drop(opens);
         drop(spare);
+        drop(boxes);
         drop(found);
         drop(lists);
     }
@@ -66,6 +72,7 @@ impl Room {
         Room {
             opens: Vec::new(alloc),
             spare: Vec::new(alloc),
+            boxes: Vec::new(alloc),
             found: FairParts::none(alloc),
             lists: Vec::new(alloc),
         }
@@ -98,23 +105,58 @@ impl Room {
 /// The room of a list of users is kept, unless it is large or many are, or there is no memory to note it.
 #[inline(always)]
 fn keep_list(lists: &mut Vec<Vec<usize>>, list: Vec<usize>) {
-    if list.capacity() <= FEW_USERS && lists.len() < MANY_LISTS && lists.reserve(1).is_ok() {
+    if list.capacity() <= FEW_USERS && lists.len() < MANY && lists.reserve(1).is_ok() {
         lists.push_reserved(list);
     }
 }
 
-/// The room of the lists of these sides is kept.
-fn keep_lists(lists: &mut Vec<Vec<usize>>, sides: &mut Vec<Reverse<OpenSide>>) {
+/// The box of a side that is done is kept with its list of users, unless that is large or many boxes are, or there is no
+/// memory to note it.
+#[inline(always)]
+fn keep_box(boxes: &mut Vec<BoxedSide>, side: BoxedSide) {
+    let few = side.get().rising.capacity() <= FEW_USERS;
+    if few && boxes.len() < MANY && boxes.reserve(1).is_ok() {
+        boxes.push_reserved(side);
+    }
+}
+
+/// The boxes of these sides are kept.
+fn keep_boxes(boxes: &mut Vec<BoxedSide>, sides: &mut Vec<Reverse<BoxedSide>>) {
     for Reverse(side) in sides.drain(..) {
-        keep_list(lists, side.rising);
+        keep_box(boxes, side);
+    }
+}
+
+/// A side that leaves so much for these users, in a box that was kept, if there is one. The room of the list of users
+/// that lay there is kept.
+fn open_side(
+    alloc: Global,
+    boxes: &mut Vec<BoxedSide>,
+    lists: &mut Vec<Vec<usize>>,
+    slack: Natural,
+    rising: Vec<usize>,
+) -> Result<BoxedSide, AllocError>
+    requires { 0 < length rising.items }
+    ensures slack { IfOk result (λ side. side.slack ≡ slack) }
+    ensures rising { IfOk result (λ side. side.rising.items ≡ rising.items) }
+{
+    match boxes.pop() {
+        Some(mut side) => {
+            keep_list(lists, side.renew(slack, rising));
+            Ok(side)
+        }
+        None => BoxedSide::new(alloc, OpenSide::new(slack, rising)),
     }
 }
 
 /// The sides that have users, before any is frozen, in their order. They are listed in room that is given.
 fn open_list(
-    mut opens: Vec<Reverse<OpenSide>>,
+    alloc: Global,
+    mut opens: Vec<Reverse<BoxedSide>>,
+    boxes: &mut Vec<BoxedSide>,
+    lists: &mut Vec<Vec<usize>>,
     sides: &mut Vec<Side>,
-) -> Result<Vec<Reverse<OpenSide>>, AllocError>
+) -> Result<Vec<Reverse<BoxedSide>>, AllocError>
     ensures opened { IfOk result (λ opens. AreOpened sides.old.items opens.items) }
     ensures count { IfOk result (λ opens. length opens.items ≤ length sides.old.items) }
     ensures taken { OnOk result (sides.new.items ≡ []) }
@@ -127,7 +169,8 @@ fn open_list(
             users: rising,
         } = side;
         if !rising.is_empty() {
-            opens.push(Reverse(OpenSide::new(slack, rising)))?;
+            let open = open_side(alloc, boxes, lists, slack, rising)?;
+            opens.push(Reverse(open))?;
         }
     }
     Ok(opens)
@@ -135,26 +178,29 @@ fn open_list(
 
 /// The same by their shares.
 fn open_sides(
-    opens: Vec<Reverse<OpenSide>>,
+    alloc: Global,
+    opens: Vec<Reverse<BoxedSide>>,
+    boxes: &mut Vec<BoxedSide>,
+    lists: &mut Vec<Vec<usize>>,
     sides: &mut Vec<Side>,
-) -> Result<BinaryHeap<Reverse<OpenSide>>, AllocError>
+) -> Result<BinaryHeap<Reverse<BoxedSide>>, AllocError>
     ensures opened { IfOk result (λ queue. AreOpened sides.old.items (heap_items queue)) }
     ensures order { IfOk result (λ queue. IsHeap queue_cmp (heap_items queue)) }
     ensures count { IfOk result (λ queue. heap_len queue ≤ length sides.old.items) }
     ensures taken { OnOk result (sides.new.items ≡ []) }
 {
-    Ok(BinaryHeap::from(open_list(opens, sides)?))
+    Ok(BinaryHeap::from(open_list(alloc, opens, boxes, lists, sides)?))
 }
 
 /// Whether the share of the side, of which so many users rose before they were counted, is known to be no greater than
 /// those of the others.
-fn is_least(side: &OpenSide, before: usize, queue: &BinaryHeap<Reverse<OpenSide>>) -> bool
+fn is_least(side: &BoxedSide, before: usize, queue: &BinaryHeap<Reverse<BoxedSide>>) -> bool
     requires order { IsHeap queue_cmp (heap_items queue.now) }
     requires was { length side.now.rising.items ≡ before → HaveNoLessShare side.now (heap_items queue.now) }
     ensures least { result ≡ true → HaveNoLessShare side.now (heap_items queue.now) }
     ensures fewer { result ≡ false → length side.now.rising.items ≢ before }
 {
-    if side.rising.len() == before {
+    if side.get().rising.len() == before {
         return true;
     }
     match queue.peek() {
@@ -164,14 +210,14 @@ fn is_least(side: &OpenSide, before: usize, queue: &BinaryHeap<Reverse<OpenSide>
 }
 
 /// Takes out the side with the least share, once all its frozen users are counted. Where no flow is left that rises,
-/// there is none. Of sides that are let go the room of their lists is kept.
+/// there is none. Of sides that are let go the boxes are kept.
 fn next_side(
-    queue: &mut BinaryHeap<Reverse<OpenSide>>,
-    lists: &mut Vec<Vec<usize>>,
+    queue: &mut BinaryHeap<Reverse<BoxedSide>>,
+    boxes: &mut Vec<BoxedSide>,
     left: usize,
     levels: &[Natural],
     level_of: &[Option<usize>],
-) -> Result<Option<OpenSide>, AllocError>
+) -> Result<Option<BoxedSide>, AllocError>
     requires left { left ≡ sum_by rises level_of.now }
     requires inside { AreInside levels.now level_of.now }
     requires sound { IsShareQueue (length level_of.now) (frozen_at levels.now level_of.now) (heap_items queue.old) }
@@ -193,13 +239,15 @@ fn next_side(
     if left == 0 {
         return Ok(None);
     }
-    while let Some(Reverse(least)) = queue.pop() {
-        let before = least.rising.len();
-        if let Some(side) = least.count_frozen(lists, levels, level_of) {
-            if is_least(&side, before, queue) {
-                return Ok(Some(side));
+    while let Some(Reverse(mut least)) = queue.pop() {
+        let before = least.get().rising.len();
+        if least.count_frozen(levels, level_of) {
+            if is_least(&least, before, queue) {
+                return Ok(Some(least));
             }
-            queue.push(Reverse(side))?;
+            queue.push(Reverse(least))?;
+        } else {
+            keep_box(boxes, least);
         }
     }
     Ok(None)
@@ -208,27 +256,28 @@ fn next_side(
 /// The sides at a scale so many times as great, in their order. They are listed in room that is lent, which gets that of
 /// the others.
 fn grown_list(
-    sides: Vec<Reverse<OpenSide>>,
+    sides: Vec<Reverse<BoxedSide>>,
     factor: u64,
-    spare: &mut Vec<Reverse<OpenSide>>,
-) -> Result<Vec<Reverse<OpenSide>>, AllocError>
+    spare: &mut Vec<Reverse<BoxedSide>>,
+) -> Result<Vec<Reverse<BoxedSide>>, AllocError>
     ensures grown { IfOk result (λ grown. AreGrown factor sides.items grown.items) }
     ensures count { IfOk result (λ grown. length grown.items ≡ length sides.items) }
 {
     spare.clear();
     let mut grown = mem::replace(spare, sides);
-    for Reverse(side) in spare.drain(..) {
-        grown.push(Reverse(side.grown(factor)?))?;
+    for Reverse(mut side) in spare.drain(..) {
+        side.grow(factor)?;
+        grown.push(Reverse(side))?;
     }
     Ok(grown)
 }
 
 /// The same by their shares.
 fn grown_sides(
-    queue: BinaryHeap<Reverse<OpenSide>>,
+    queue: BinaryHeap<Reverse<BoxedSide>>,
     factor: u64,
-    spare: &mut Vec<Reverse<OpenSide>>,
-) -> Result<BinaryHeap<Reverse<OpenSide>>, AllocError>
+    spare: &mut Vec<Reverse<BoxedSide>>,
+) -> Result<BinaryHeap<Reverse<BoxedSide>>, AllocError>
     requires { IsHeap queue_cmp (heap_items queue) }
     ensures grown { IfOk result (λ grown. AreGrown factor (heap_items queue) (heap_items grown)) }
     ensures order { IfOk result (λ grown. IsHeap queue_cmp (heap_items grown)) }
@@ -275,19 +324,18 @@ pub fn fair_parts_in(
     ensures taken { OnOk result (sides.new.items ≡ []) }
 {
     let mut opens = mem::replace(&mut room.opens, Vec::new(alloc));
-    keep_lists(&mut room.lists, &mut opens);
-    let mut queue = open_sides(opens, sides)?;
+    let boxes = &mut room.boxes;
+    keep_boxes(boxes, &mut opens);
+    let mut queue = open_sides(alloc, opens, boxes, &mut room.lists, sides)?;
     let found = &mut room.found;
-    let lists = &mut room.lists;
     found.renew(alloc, count)?;
     let mut left = count;
-    while let Some(side) = next_side(&mut queue, lists, left, &found.levels, &found.level_of)? {
-        let OpenSide { slack, rising, .. } = side;
-        let share = whole_share(alloc, slack, rising.len() as u64)?;
+    while let Some(mut side) = next_side(&mut queue, boxes, left, &found.levels, &found.level_of)? {
+        let share = side.take_share(alloc)?;
         found.grow(share.factor)?;
         queue = grown_sides(queue, share.factor, &mut room.spare)?;
-        left -= found.freeze(&rising, share.parts)?;
-        keep_list(lists, rising);
+        left -= found.freeze(&side.get().rising, share.parts)?;
+        keep_box(boxes, side);
     }
     room.opens = queue.into_vec();
     Ok(mem::replace(found, FairParts::none(alloc)))

@@ -1,84 +1,45 @@
 //! A side while the flows rise.
-ghost use Rattle.std.specs.Prelude.{◌≡◌, ◌*◌, ◌/◌, ◌^◌, ◌<◌, All, IsSome, Some, length, true};
-ghost use Rattle.std.specs.Cmp.{partial_equiv_from_equiv, eq_by_cmp_equiv, partial_order_from_total};
-ghost use Rattle.std.specs.Ordering.{eq_by_cmp};
-ghost use Rattle.std.proofs.Common.{refl};
+ghost use Rattle.std.specs.Prelude.{◌≡◌, ◌*◌, ◌/◌, ◌%◌, ◌^◌, ◌<◌, All, length, true, false};
+ghost use Rattle.std.specs.Ordering.{nat_cmp};
 ghost use Rattle.fairness.specs.Numbers.Fraction.{fraction_cmp};
-ghost use Rattle.fairness.specs.Numbers.FractionOrder.{fraction_total};
-ghost use Rattle.fair_rates.specs.Filling.FairParts.{level_at};
 
-use super::keep_list;
+use super::risers::{are_frozen, take_frozen};
+use super::share::{Share, share_of, whole_share};
 use natural::Natural;
-use std::alloc::AllocError;
+use std::alloc::{AllocError, Global};
 use std::cmp::Ordering;
+use std::mem;
 
-/// A side of which some users rise. Sides are compared by their shares: the slack for each rising
-/// user. The quotients only save time: where they differ at one shift, they compare as the shares do.
+/// A share, rounded down, and what is left.
+#[derive(Clone, Copy)]
+pub(crate) struct RoundedShare {
+    /// How many limbs of 64 bits of the slack are left out, the lowest ones.
+    pub(crate) shift: usize,
+    /// The share without these, rounded down.
+    pub(crate) quotient: u128,
+    /// What is left of the slack without these.
+    pub(crate) rest: u64,
+}
+
+/// A side of which some users rise.
 #[derive(Drop)]
 pub(crate) struct OpenSide {
     /// What the users that are counted as frozen leave of the cap, in parts.
     pub(crate) slack: Natural,
     /// The other users.
     pub(crate) rising: Vec<usize>,
-    /// How many limbs of 64 bits the quotient leaves out.
-    shift: usize,
-    /// The share without these, the lowest ones, rounded down.
-    quotient: u128,
+    /// The slack for each of these.
+    pub(crate) share: RoundedShare,
     pub(crate) ghost some: { 0 < length rising.items },
-    ghost rounded: { quotient ≡ slack / (2 ^ (64 * shift) * length rising.items) },
-}
-
-impl PartialEq for OpenSide {
-    ghost eq = { eq_by_cmp (λ x y. fraction_cmp x.slack (length x.rising.items) y.slack (length y.rising.items)) };
-
-    ghost laws = { partial_equiv_from_equiv (eq_by_cmp_equiv
-        (fraction_total (λ x. x.slack) (λ x. length x.rising.items) (λ x. x.some))) };
-
-    fn eq(&self, other: &OpenSide) -> bool {
-        self.cmp(other).is_eq()
-    }
-}
-
-impl Eq for OpenSide {
-    ghost laws = { eq_by_cmp_equiv (fraction_total (λ x. x.slack) (λ x. length x.rising.items) (λ x. x.some)) };
-}
-
-impl PartialOrd for OpenSide {
-    ghost partial_cmp = { λ x y. Some (fraction_cmp x.slack (length x.rising.items) y.slack (length y.rising.items)) };
-
-    ghost laws = { partial_order_from_total (fraction_total (λ x. x.slack) (λ x. length x.rising.items)
-        (λ x. x.some)) };
-
-    fn partial_cmp(&self, other: &OpenSide) -> Option<Ordering> {
-        Some(self.cmp(other))
-    }
-}
-
-impl Ord for OpenSide {
-    ghost cmp = { λ x y. fraction_cmp x.slack (length x.rising.items) y.slack (length y.rising.items) };
-
-    ghost total = { fraction_total (λ x. x.slack) (λ x. length x.rising.items) (λ x. x.some) };
-
-    ghost matches_partial_cmp = { λ x y. refl };
-
-    ghost matches_eq = { λ x y. refl };
-
-    #[inline(always)]
-    fn cmp(&self, other: &OpenSide) -> Ordering {
-        if self.shift == other.shift && self.quotient != other.quotient {
-            return self.quotient.cmp(&other.quotient);
-        }
-        self.compare_shares(other)
-    }
+    pub(crate) ghost rounded: { share.quotient ≡ slack / (2 ^ (64 * share.shift) * length rising.items) },
+    pub(crate) ghost left: { share.rest ≡ slack / 2 ^ (64 * share.shift) % length rising.items },
 }
 
 impl OpenSide {
-    ghost use Rattle.std.specs.Prelude.{◌≡◌, ℕ, ◌⊎◌, All, IfSome, IfOk, MatchOption};
-    ghost use Rattle.fairness.specs.Fairness.Fair.{Side as WholeSide};
+    ghost use Rattle.std.specs.Prelude.{IfOk, OnOk};
     ghost use Rattle.fairness.specs.Filling.Frozen.{AllRise, AllFrozen};
     ghost use Rattle.fair_rates.specs.Filling.States.{frozen_at, AreInside, HaveNoMore};
-    ghost use Rattle.fair_rates.specs.Filling.States.{IsWithinSlack};
-    ghost use Rattle.fair_rates.specs.Filling.States.{KeepsAccount, IsGrown};
+    ghost use Rattle.fair_rates.specs.Filling.States.{HaveBeenCounted, IsGrown};
 
     /// A side that leaves so much for these users.
     pub(crate) fn new(slack: Natural, rising: Vec<usize>) -> OpenSide
@@ -86,71 +47,72 @@ impl OpenSide {
         ensures slack { result.slack ≡ slack }
         ensures rising { result.rising.items ≡ rising.items }
     {
-        let (highest, shift) = slack.highest_limbs();
-        let quotient = quotient(highest, rising.len() as u64);
+        let share = rounded(&slack, rising.len() as u64);
         OpenSide {
             slack,
             rising,
-            quotient,
-            shift,
+            share,
         }
     }
 
-    /// Counts the users that froze since. `None` where all are frozen now; then nothing needs to be reckoned.
-    pub(crate) fn count_frozen(
-        self,
-        lists: &mut Vec<Vec<usize>>,
-        levels: &[Natural],
-        level_of: &[Option<usize>],
-    ) -> Option<OpenSide>
-        requires users { All (λ flow. flow < length level_of.now) self.rising.items }
-        requires inside { AreInside levels.now level_of.now }
-        requires no_more { HaveNoMore (frozen_at levels.now level_of.now) self.slack self.rising.items }
-        ensures account { (side : WholeSide) (scale : ℕ)
-            → KeepsAccount side scale (frozen_at levels.now level_of.now) self.slack self.rising.items
-            → MatchOption result (AllFrozen (frozen_at levels.now level_of.now) side.users)
-            (λ new. KeepsAccount side scale (frozen_at levels.now level_of.now) new.slack new.rising.items) }
-        ensures users { IfSome result (λ new. All (λ flow. flow < length level_of.now) new.rising.items) }
-        ensures rise { IfSome result (λ new. AllRise (frozen_at levels.now level_of.now) new.rising.items) }
-        ensures no_lower { IfSome result (λ new. (parts : ℕ)
-            → IsWithinSlack parts self.slack self.rising.items → IsWithinSlack parts new.slack new.rising.items) }
-        ensures changed { IfSome result (λ new. (length new.rising.items < length self.rising.items)
-            ⊎ ((new.slack ≡ self.slack) × (length new.rising.items ≡ length self.rising.items))) }
+    /// Becomes such a side, and gives away the list of users that it had.
+    pub(crate) fn renew(&mut self, slack: Natural, rising: Vec<usize>) -> Vec<usize>
+        requires { 0 < length rising.items }
+        ensures slack { self.new.slack ≡ slack }
+        ensures rising { self.new.rising.items ≡ rising.items }
     {
-        let OpenSide {
-            mut slack,
-            mut rising,
-            shift,
-            quotient,
-        } = self;
-        if are_frozen(&rising, level_of) {
-            keep_list(lists, rising);
-            return None;
+        self.share = rounded(&slack, rising.len() as u64);
+        self.slack = slack;
+        mem::replace(&mut self.rising, rising)
+    }
+
+    /// Counts the users that froze since. Answers whether some rise; else nothing more needs to be reckoned.
+    pub(crate) fn count_frozen(&mut self, levels: &[Natural], level_of: &[Option<usize>]) -> bool
+        requires users { All (λ flow. flow < length level_of.now) self.old.rising.items }
+        requires inside { AreInside levels.now level_of.now }
+        requires no_more { HaveNoMore (frozen_at levels.now level_of.now) self.old.slack self.old.rising.items }
+        ensures counted { HaveBeenCounted (length level_of.now) (frozen_at levels.now level_of.now)
+            self.old.slack self.old.rising.items self.new.slack self.new.rising.items }
+        ensures rise { result ≡ true → AllRise (frozen_at levels.now level_of.now) self.new.rising.items }
+        ensures frozen { result ≡ false → AllFrozen (frozen_at levels.now level_of.now) self.new.rising.items }
+    {
+        if are_frozen(&self.rising, level_of) {
+            return false;
         }
-        let before = rising.len();
-        let mut place = 0;
-        while place < rising.len() {
-            match level_of[rising[place]] {
-                Some(level) => {
-                    slack.sub_assign(&levels[level]);
-                    rising.swap_remove(place);
-                }
-                None => place += 1,
+        let before = self.rising.len();
+        let some = take_frozen(&mut self.slack, &mut self.rising, levels, level_of);
+        if self.rising.len() < before {
+            self.share = rounded(&self.slack, self.rising.len() as u64);
+        }
+        some
+    }
+
+    /// How the shares compare. What is kept of the divisions only saves time.
+    #[inline(always)]
+    pub(crate) fn compare(&self, other: &OpenSide) -> Ordering
+        ensures { result ≡ fraction_cmp self.now.slack (length self.now.rising.items) other.now.slack
+            (length other.now.rising.items) }
+    {
+        if self.share.shift == other.share.shift {
+            if self.share.quotient != other.share.quotient {
+                return self.share.quotient.cmp(&other.share.quotient);
+            }
+            if self.share.shift == 0 {
+                return self.compare_rests(other);
             }
         }
-        if rising.is_empty() {
-            keep_list(lists, rising);
-            return None;
-        }
-        if rising.len() == before {
-            return Some(OpenSide {
-                slack,
-                rising,
-                shift,
-                quotient,
-            });
-        }
-        Some(OpenSide::new(slack, rising))
+        self.compare_shares(other)
+    }
+
+    /// How the shares compare where the quotients are equal, and no limb is left out.
+    #[inline(always)]
+    fn compare_rests(&self, other: &OpenSide) -> Ordering
+        ensures { result ≡ nat_cmp (length other.now.rising.items * self.now.share.rest)
+            (length self.now.rising.items * other.now.share.rest) }
+    {
+        let one = product(other.rising.len() as u64, self.share.rest);
+        let two = product(self.rising.len() as u64, other.share.rest);
+        one.cmp(&two)
     }
 
     /// How the shares compare, whatever the quotients are.
@@ -164,41 +126,68 @@ impl OpenSide {
         self.slack.compare_times(other_count, &other.slack, count)
     }
 
-    /// The same side at a scale so many times as great.
-    pub(crate) fn grown(self, factor: u64) -> Result<OpenSide, AllocError>
-        ensures { IfOk result (λ new. IsGrown factor self new) }
+    /// Makes it the same side at a scale so many times as great.
+    pub(crate) fn grow(&mut self, factor: u64) -> Result<(), AllocError>
+        ensures { OnOk result (IsGrown factor self.old self.new) }
     {
-        let OpenSide {
-            mut slack,
-            rising,
-            ..
-        } = self;
-        slack.multiply(factor)?;
-        Ok(OpenSide::new(slack, rising))
+        self.slack.multiply(factor)?;
+        self.share = rounded(&self.slack, self.rising.len() as u64);
+        Ok(())
+    }
+
+    /// What each of the rising users gets. What is left of the slack then says nothing.
+    pub(crate) fn take_share(&mut self, alloc: Global) -> Result<Share, AllocError>
+        ensures rising { OnOk result (self.new.rising.items ≡ self.old.rising.items) }
+        ensures factor { IfOk result (λ share. 0 < share.factor) }
+        ensures whole { IfOk result (λ share.
+            share.parts * length self.old.rising.items ≡ self.old.slack * share.factor) }
+    {
+        let count = self.rising.len() as u64;
+        if self.share.shift == 0 {
+            let quotient = Natural::from_u128(alloc, self.share.quotient);
+            return share_of(alloc, quotient, self.share.rest, count);
+        }
+        let slack = mem::replace(&mut self.slack, Natural::from_u64(alloc, 0));
+        self.share = rounded(&self.slack, count);
+        whole_share(alloc, slack, count)
     }
 }
 
-/// `n / by`. A division of 64 bits is the quicker one.
+/// The share of each of so many users in the slack, rounded down.
+fn rounded(slack: &Natural, count: u64) -> RoundedShare
+    requires { 0 < count }
+    ensures quotient { result.quotient ≡ slack.now / (2 ^ (64 * result.shift) * count) }
+    ensures rest { result.rest ≡ slack.now / 2 ^ (64 * result.shift) % count }
+{
+    let (highest, shift) = slack.highest_limbs();
+    let (quotient, rest) = divided(highest, count);
+    RoundedShare {
+        shift,
+        quotient,
+        rest,
+    }
+}
+
+/// `n / by`, and the remainder. A division of 64 bits is the quicker one.
 #[inline(always)]
-fn quotient(n: u128, by: u64) -> u128
+fn divided(n: u128, by: u64) -> (u128, u64)
     requires { 0 < by }
-    ensures { result ≡ n / by }
+    ensures quotient { result.0 ≡ n / by }
+    ensures rest { result.1 ≡ n % by }
 {
     match u64::try_from(n) {
-        Ok(n) => u128::from(n / by),
-        Err(_) => n / u128::from(by),
+        Ok(n) => (u128::from(n / by), n % by),
+        Err(_) => {
+            let quotient = n / u128::from(by);
+            (quotient, (n - quotient * u128::from(by)) as u64)
+        }
     }
 }
 
-/// Whether all these users have a level.
-fn are_frozen(users: &[usize], level_of: &[Option<usize>]) -> bool
-    requires { All (λ flow. flow < length level_of.now) users.now }
-    ensures { result ≡ true → All (λ flow. IsSome (level_at level_of.now flow)) users.now }
+/// `n * by`.
+#[inline(always)]
+fn product(n: u64, by: u64) -> u128
+    ensures { result ≡ n * by }
 {
-    for user in users {
-        if level_of[*user].is_none() {
-            return false;
-        }
-    }
-    true
+    u128::from(n) * u128::from(by)
 }

@@ -1,5 +1,5 @@
 //! The share of a side, in whole parts.
-ghost use Rattle.std.specs.Prelude.{◌≡◌, ◌*◌, ◌<◌, ◌≤◌, ℕ, IfOk};
+ghost use Rattle.std.specs.Prelude.{◌≡◌, ◌+◌, ◌*◌, ◌<◌, ◌≤◌, ℕ, IfOk};
 
 use fairness::lowest_terms::gcd_of_narrow;
 use natural::Natural;
@@ -22,8 +22,25 @@ pub(crate) fn whole_share(alloc: Global, slack: Natural, count: u64) -> Result<S
     ensures least { IfOk result (λ share. (parts factor : ℕ) → 0 < factor → parts * count ≡ slack * factor
         → share.factor ≤ factor) }
 {
-    let mut parts = slack;
-    let rest = parts.divide(count);
+    let mut quotient = slack;
+    let rest = quotient.divide(count);
+    share_of(alloc, quotient, rest, count)
+}
+
+/// The share of each of `count` users in a slack of which a division by them gives these.
+pub(crate) fn share_of(
+    alloc: Global,
+    quotient: Natural,
+    rest: u64,
+    count: u64,
+) -> Result<Share, AllocError>
+    requires { rest < count }
+    ensures factor { IfOk result (λ share. 0 < share.factor) }
+    ensures whole { IfOk result (λ share. share.parts * count ≡ (quotient * count + rest) * share.factor) }
+    ensures least { IfOk result (λ share. (parts factor : ℕ) → 0 < factor
+        → parts * count ≡ (quotient * count + rest) * factor → share.factor ≤ factor) }
+{
+    let mut parts = quotient;
     if rest == 0 {
         return Ok(Share { parts, factor: 1 });
     }

@@ -1,5 +1,5 @@
 use Rattle.fair_rates.proofs.Common.{◌≡◌, ℕ, ◌*◌, ◌<◌, ◌∷◌, List, [], All, Option, None, length, map, sym, ap, subst}
-use Rattle.fair_rates.proofs.Common.{arith, ◌∙◌, heap_items, common_steps, length-map, All-nil, product, Side, IsFair}
+use Rattle.fair_rates.proofs.Common.{arith, ◌∙◌, heap_items, length-map, All-nil, product, Side, IsFair}
 use Rattle.fair_rates.proofs.Common.{frozen_at, top, IsQueue, IsShareQueue, AreAbove, AllFilled, IsRaised, AreAtTop}
 use Rattle.fair_rates.proofs.Common.{flow_parts, side_of, OpenSide}
 use Rattle.std.proofs.lemmas.List.{length-replicate}
@@ -42,7 +42,8 @@ freeze-requires c =
     some_of_if (λ (s : OpenSide). All (λ flow. flow < length E) s.rising.items) c.in_ok-side.field-0
     c.in_ok-side.ensures.users c.in-Some.side c.in-Some.is in
     subst (λ n. All (λ flow. flow < n) c.deref-in-Some.result.now) same
-    (subst (All (λ flow. flow < length E)) (sym c.deref-in-Some.ensures.value) users)
+    (subst (All (λ flow. flow < length E)) (sym (c.deref-in-Some.ensures.value
+    ∙ ap (λ (s : OpenSide). s.rising.items) c.get.ensures ∙ c.in_ok-share.ensures.rising)) users)
 
 pub next_side-requires-clause-left : goal.next_side-requires-clause-left
 next_side-requires-clause-left c =
@@ -97,18 +98,18 @@ loop-queue-preserved c =
     let share = c.in_ok-share.share in
     let after = c.freeze.new.self.levels.items in
     let later = c.freeze.new.self.level_of.items in
-    let count : c.len.result ≡ length side.rising.items = grind (arith, common_steps, c.len.ensures) in
-    let whole = ap (λ n. share.parts * n) (sym count) ∙ c.in_ok-share.ensures.whole in
+    let users =
+    c.deref-in-Some.ensures.value ∙ ap (λ (s : OpenSide). s.rising.items) c.get.ensures ∙ c.in_ok-share.ensures.rising in
     let raised : IsRaised (map (λ parts. parts * share.factor) levels) after share.parts =
     subst (λ xs. IsRaised xs after share.parts) c.in_ok-grow.ensures.levels c.in_ok-left.ensures.raised in
     let at_top : AreAtTop side.rising.items level_of later after =
-    subst (λ xs. AreAtTop xs level_of later after) c.deref-in-Some.ensures.value
+    subst (λ xs. AreAtTop xs level_of later after) users
     (subst (λ xs. AreAtTop c.deref-in-Some.result.now xs later after) c.in_ok-grow.ensures.level_of
     c.in_ok-left.ensures.at_top) in
     let on =
     round sides times share.factor levels after level_of later side rest opens share.parts
     c.in_ok-share.ensures.factor old course taken c.in_ok-queue-2.ensures.grown
-    c.in_ok-queue-2.ensures.order whole raised at_top in
+    c.in_ok-queue-2.ensures.order c.in_ok-share.ensures.whole raised at_top in
     let scale = c.in_ok-left.ensures.scale ∙ c.in_ok-grow.ensures.scale in
     let growth = ap product c.in_ok-left.ensures.growth ∙ c.in_ok-grow.ensures.growth in
     let fewer = on_some_of o next.fewer side is in

@@ -15,13 +15,13 @@ loop-side-init c =
 
 pub loop-side-preserved : goal.loop-side-preserved
 loop-side-preserved c =
-    let new : Reverse OpenSide = record { 0 = c.in_ok-grown.field-0 } in
+    let new : Reverse OpenSide = record { 0 = c.grow.new.self } in
     let old = c.loop-side.grown.items in
     record {
       grown =
           grown_more c.args.factor c.loop-side.yielded old c.push.new.self.items c.in-Some.field-0 new
           (subst (IsPermutation (new ∷ old)) (sym c.in_ok-push.ensures.items) (put_last new old))
-          c.in_ok-grown.ensures c.loop-side.invariant.grown;
+          c.in_ok-grow.ensures c.loop-side.invariant.grown;
       count =
           omega (
             arith,

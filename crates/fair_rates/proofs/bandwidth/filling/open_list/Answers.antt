@@ -19,11 +19,11 @@ loop-side-init c =
       count = omega (arith, ap length none);
     }
 
-pub loop-side-preserved-in-Continue-branch-2 : goal.loop-side-preserved-in-Continue-branch-2
-loop-side-preserved-in-Continue-branch-2 c =
+pub loop-side-preserved-in-Continue-branch-3 : goal.loop-side-preserved-in-Continue-branch-3
+loop-side-preserved-in-Continue-branch-3 c =
     let side = c.in-Some.side in
     let opens = c.loop-side.opens.items in
-    let opened : Reverse OpenSide = record { 0 = c.new.result } in
+    let opened : Reverse OpenSide = record { 0 = c.in_ok-open.open } in
     let before = c.loop-side.invariant.opened in
     record {
       opened = (
@@ -32,7 +32,7 @@ loop-side-preserved-in-Continue-branch-2 c =
             c.in-Some.ensures.items,
         subst (AreOpened (side ∷ before.0)) (sym c.in_ok-push.ensures.items)
             (opened_more before.0 side opens before.2 (opens ++ opened ∷ []) (put_last opened opens)
-            c.new.ensures.slack (sym c.new.ensures.rising)),
+            c.in_ok-open.ensures.slack (sym c.in_ok-open.ensures.rising)),
       );
       count = omega (arith, c.in_ok-push.ensures.len, c.loop-side.invariant.count, c.in-Some.ensures.cases);
     }

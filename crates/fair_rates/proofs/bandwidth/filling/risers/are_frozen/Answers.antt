@@ -1,7 +1,7 @@
 use Rattle.fair_rates.proofs.Common.{◌<◌, ℕ, All, All-push, IsSome, get_or, length, sym, subst, arith}
 use Rattle.fair_rates.proofs.Common.{common_steps, take, take_all, level_at}
 use Rattle.std.proofs.lemmas.List.{take_more}
-use Rattle.fair_rates.proofs.bandwidth.filling.open.are_frozen.Goals as goal
+use Rattle.fair_rates.proofs.bandwidth.filling.risers.are_frozen.Goals as goal
 
 pub loop-user-preserved : goal.loop-user-preserved
 loop-user-preserved c =
