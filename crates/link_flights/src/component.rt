@@ -24,7 +24,6 @@ use crate::flight_list::Flights;
 use crate::joined::Joined;
 use crate::rate::Rate;
 use crate::seen::Seen;
-use crate::space::Space;
 use crate::table::{End, Owners, Table};
 use fairness::error::Error;
 use fairness::peer::Peer;
@@ -35,9 +34,6 @@ use natural::Natural;
 use std::alloc::Global;
 use std::collections::VecDeque;
 use std::sync::Arc;
-
-/// So many messages a component has room for before their list has to move. Most join no more.
-const FEW_JOINED: usize = 8;
 
 /// So many messages a component may join, and half of all in flight if that is more. Where there are
 /// more, it pays to rate all that is in flight.
@@ -91,55 +87,55 @@ impl<P: Drop> Drop for Component<P> {
     }
 }
 
-impl<P: Peer> Component<P> {
-    /// No sender, no receiver, and no level. What joins and what is near is listed in room that is given.
-    fn new(alloc: Global, space: Space<P>) -> Result<Component<P>, Error>
-        ensures part { IfOk result (λ component. component.whole ≡ false) }
-        ensures joined { IfOk result (λ component. component.joined.items ≡ []) }
-        ensures near { IfOk result (λ component. component.near.items ≡ []) }
-        ensures refused { IfErr result (λ e. e ≡ Error.OutOfMemory) }
-    {
-        let (mut joined, near, seen) = space.into_lists();
-        joined.reserve(FEW_JOINED)?;
-        Ok(Component {
+impl<P: Drop> Component<P> {
+    /// No sender, no receiver, and no level.
+    pub(crate) fn new(alloc: Global) -> Component<P> {
+        Component {
             whole: false,
             level: Rate::zero(alloc),
-            joined,
-            near,
-            seen,
-        })
+            joined: Vec::new(alloc),
+            near: Vec::new(alloc),
+            seen: Seen::new(alloc),
+        }
     }
 
-    /// All senders and all receivers, and no level. Nothing is listed; the room for that is given.
-    pub(crate) fn whole(alloc: Global, space: Space<P>) -> Component<P>
+    /// All senders and all receivers, and no level. Nothing is listed.
+    pub(crate) fn whole(alloc: Global) -> Component<P>
         ensures whole { result.whole ≡ true }
         ensures joined { result.joined.items ≡ [] }
         ensures level { result.level ≡ 0 }
         ensures near { result.near.items ≡ [] }
     {
-        let (joined, near, seen) = space.into_lists();
-        Component {
-            whole: true,
-            level: Rate::zero(alloc),
-            joined,
-            near,
-            seen,
-        }
+        let mut all = Component::new(alloc);
+        all.become_whole(alloc);
+        all
     }
 
-    /// The room of its lists. Messages are let go.
-    pub(crate) fn into_space(self) -> Space<P> {
-        let Component {
-            whole: _,
-            level,
-            joined,
-            near,
-            seen,
-        } = self;
-        drop(level);
-        Space::of(joined, near, seen)
+    /// No sender and no receiver any more. Its lists keep their room.
+    pub(crate) fn clear(&mut self)
+        ensures part { self.new.whole ≡ false }
+        ensures joined { self.new.joined.items ≡ [] }
+        ensures near { self.new.near.items ≡ [] }
+    {
+        self.whole = false;
+        self.joined.clear();
+        self.near.clear();
     }
 
+    /// All senders and all receivers from now on, and no level. Nothing is listed; its lists keep their room.
+    fn become_whole(&mut self, alloc: Global)
+        ensures whole { self.new.whole ≡ true }
+        ensures joined { self.new.joined.items ≡ [] }
+        ensures level { self.new.level ≡ 0 }
+        ensures near { self.new.near.items ≡ [] }
+    {
+        self.clear();
+        self.whole = true;
+        self.level = Rate::zero(alloc);
+    }
+}
+
+impl<P: Peer> Component<P> {
     /// Whether it is seen to have that end of the message, whose peers have these numbers.
     fn has_end(&self, end: End, message: &Message<P>, numbers: Owners) -> bool
         ensures { result ≡ true → has_end P.cmp self.now end message.now.origin message.now.recipient ≡ true }
@@ -250,56 +246,57 @@ fn lesser(one: Option<Natural>, other: Natural) -> Natural
 }
 
 impl<P: Peer> Flights<P> {
-    /// The component of the messages that are done or loose, and of those that have got no rate yet, or all that is
-    /// in flight where it is large. What joins and what is near is listed in room that is given.
-    pub(crate) fn component(
+    /// Finds the component of the messages that are done or loose, and of those that have got no rate yet, or all that is
+    /// in flight where it is large.
+    pub(crate) fn find_component(
         &self,
         done: &VecDeque<Arc<Message<P>>>,
         peers: &Peers<P>,
         pairs: &Pairs<P>,
         noted: &mut Vec<bool>,
-        space: Space<P>,
-    ) -> Result<Component<P>, Error>
+        component: &mut Component<P>,
+    ) -> Result<(), Error>
+        requires part { component.old.whole ≡ false }
+        requires joined { component.old.joined.items ≡ [] }
+        requires empty { component.old.near.items ≡ [] }
         requires none { AreNoted [] noted.old.items }
         requires each { length noted.old.items ≡ length self.now.list.items }
-        ensures closed { IfOk result (λ component.
-            is_closed P.cmp component done.now.items (in_units self.now) ≡ true) }
-        ensures loose { IfOk result (λ component. All (λ m. has_both P.cmp component m ≡ true) self.now.loose) }
-        ensures tied { IfOk result (λ component. AreTied (caps_of P.cmp peers.now.entries []) component) }
-        ensures level { IfOk result (λ component. IfSome self.now.floor (λ floor. component.level ≤ floor)) }
-        ensures near { IfOk result (λ component. component.whole ≡ false
-            → AreNear P.cmp component component.near.items self.now.list.items) }
-        ensures noted { IfOk result (λ component. AreNoted component.near.items noted.new.items) }
+        ensures closed { OnOk result (is_closed P.cmp component.new done.now.items (in_units self.now) ≡ true) }
+        ensures loose { OnOk result (All (λ m. has_both P.cmp component.new m ≡ true) self.now.loose) }
+        ensures tied { OnOk result (AreTied (caps_of P.cmp peers.now.entries []) component.new) }
+        ensures level { OnOk result (IfSome self.now.floor (λ floor. component.new.level ≤ floor)) }
+        ensures near { OnOk result (component.new.whole ≡ false
+            → AreNear P.cmp component.new component.new.near.items self.now.list.items) }
+        ensures noted { OnOk result (AreNoted component.new.near.items noted.new.items) }
         ensures refused { IfErr result (λ e. e ≡ Error.OutOfMemory) }
     {
-        let mut component = Component::new(self.alloc, space)?;
-        self.join_touched(done, peers, &mut component)?;
-        if self.grow(&mut component, peers, pairs, noted)? {
-            return Ok(component);
+        self.join_touched(done, peers, component)?;
+        if self.grow(component, peers, pairs, noted)? {
+            return Ok(());
         }
-        self.all_touched(peers, pairs, noted, component.into_space())
+        self.take_all(peers, pairs, noted, component)
     }
 
-    /// All that is in flight, from a level on where few are new. None is noted any more.
-    pub(crate) fn all_touched(
+    /// The component becomes all that is in flight, from a level on where few are new. None is noted any more.
+    pub(crate) fn take_all(
         &self,
         peers: &Peers<P>,
         pairs: &Pairs<P>,
         noted: &mut Vec<bool>,
-        space: Space<P>,
-    ) -> Result<Component<P>, Error>
-        ensures whole { IfOk result (λ all. all.whole ≡ true) }
-        ensures tied { IfOk result (λ all. AreTied (caps_of P.cmp peers.now.entries []) all) }
-        ensures level { IfOk result (λ all. IfSome self.now.floor (λ floor. all.level ≤ floor)) }
-        ensures noted { IfOk result (λ all. AreNoted all.near.items noted.new.items) }
+        all: &mut Component<P>,
+    ) -> Result<(), Error>
+        ensures whole { all.new.whole ≡ true }
+        ensures tied { AreTied (caps_of P.cmp peers.now.entries []) all.new }
+        ensures level { OnOk result (IfSome self.now.floor (λ floor. all.new.level ≤ floor)) }
+        ensures noted { AreNoted all.new.near.items noted.new.items }
         ensures refused { IfErr result (λ e. e ≡ Error.OutOfMemory) }
     {
         noted.clear();
-        let mut all = Component::whole(self.alloc, space);
+        all.become_whole(self.alloc);
         if self.list.len() - self.settled <= FEW_NEW {
             all.level = self.level(peers, pairs)?;
         }
-        Ok(all)
+        Ok(())
     }
 
     /// A level below which what goes on keeps its rate: the least rate of what is done or loose, or the least

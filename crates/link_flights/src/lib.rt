@@ -20,6 +20,5 @@ mod rates;
 pub mod reading;
 mod seen;
 mod sides;
-mod space;
 pub mod table;
 mod units;

@@ -2,9 +2,9 @@
 ghost use Rattle.std.specs.Prelude.{◌≡◌, [], length, All, IfOk, IfErr};
 ghost use Rattle.link_flights.specs.Flights.Components.{AreNoted};
 
+use crate::component::Component;
 use crate::numbers::Numbers;
 use crate::rate::Rate;
-use crate::space::Space;
 use fair_rates::bandwidth::{Room, Side};
 use fairness::error::Error;
 use link_pairs::message::Message;
@@ -31,8 +31,8 @@ impl Drop for Notes {
 pub struct Rooms<P> {
     /// For notes of places.
     pub(crate) notes: Notes,
-    /// For what a search lists.
-    pub(crate) space: Space<P>,
+    /// For what an event touches.
+    pub(crate) touched: Component<P>,
     /// For the places that are rated.
     pub(crate) places: Vec<usize>,
     /// For the number of each place.
@@ -56,7 +56,7 @@ impl<P: Drop> Drop for Rooms<P> {
     fn drop(self) {
         let Rooms {
             notes,
-            space,
+            touched,
             places,
             numbers,
             users,
@@ -67,7 +67,7 @@ impl<P: Drop> Drop for Rooms<P> {
             filling,
         } = self;
         drop(notes);
-        drop(space);
+        drop(touched);
         drop(places);
         drop(numbers);
         drop(users);
@@ -90,7 +90,7 @@ impl<P: Drop> Rooms<P> {
     pub fn new(alloc: Global) -> Rooms<P> {
         Rooms {
             notes: Notes::new(alloc),
-            space: Space::new(alloc),
+            touched: Component::new(alloc),
             places: Vec::new(alloc),
             numbers: Vec::new(alloc),
             users: Vec::new(alloc),

@@ -27,7 +27,6 @@ use crate::loose::Loose;
 use crate::notes::Rooms;
 use crate::numbers::Numbers;
 use crate::rate::{Rate, rates_of};
-use crate::space::Space;
 use fair_rates::bandwidth::{FairParts, fair_parts_in, parts_alone};
 use fairness::bandwidth::FlowCaps;
 use fairness::error::Error;
@@ -182,12 +181,13 @@ impl<P: Peer> Flights<P> {
         ensures refused { IfErr result (λ e. e ≡ Error.OutOfMemory) }
     {
         let mut noted = rooms.notes.take(self.alloc, self.list.len())?;
-        let space = mem::replace(&mut rooms.space, Space::new(self.alloc));
-        let touched = self.touched(done, peers, pairs, &mut noted, space)?;
+        let mut touched = mem::replace(&mut rooms.touched, Component::new(self.alloc));
+        self.find_touched(done, peers, pairs, &mut noted, &mut touched)?;
         rooms.notes.give_back(noted, &touched.near);
         let found = self.rate_touched(&touched, peers, pairs, rooms)?;
         let whole = touched.whole;
-        rooms.space = touched.into_space();
+        touched.clear();
+        rooms.touched = touched;
         let Some(found) = found else {
             return Ok(None);
         };
@@ -233,7 +233,7 @@ impl<P: Peer> Flights<P> {
         ensures before { self.new.list.before ≡ self.old.list.before }
         ensures refused { IfErr result (λ e. e ≡ Error.OutOfMemory) }
     {
-        let all = Component::whole(self.alloc, Space::new(self.alloc));
+        let all = Component::whole(self.alloc);
         let numbers = self.numbers_rated(&all, rooms)?;
         let rates = self.rates_at(&all, &numbers, peers, pairs, rooms)?;
         let mut scale = self.scale.clone()?;
@@ -414,30 +414,31 @@ impl<P: Peer> Flights<P> {
         Ok(rate)
     }
 
-    /// What is touched: the component of what is done, loose or new, or all from a level on.
-    fn touched(
+    /// Finds what is touched: the component of what is done, loose or new, or all from a level on.
+    fn find_touched(
         &self,
         done: &VecDeque<Arc<Message<P>>>,
         peers: &Peers<P>,
         pairs: &Pairs<P>,
         noted: &mut Vec<bool>,
-        space: Space<P>,
-    ) -> Result<Component<P>, Error>
+        touched: &mut Component<P>,
+    ) -> Result<(), Error>
         requires none { AreNoted [] noted.old.items }
         requires each { length noted.old.items ≡ length self.now.list.items }
-        ensures closed { IfOk result (λ touched. is_closed P.cmp touched done.now.items (in_units self.now) ≡ true) }
-        ensures loose { IfOk result (λ touched. All (λ m. has_both P.cmp touched m ≡ true) self.now.loose) }
-        ensures tied { IfOk result (λ touched. AreTied (caps_of P.cmp peers.now.entries []) touched) }
-        ensures level { IfOk result (λ touched. IfSome self.now.floor (λ floor. touched.level ≤ floor)) }
-        ensures near { IfOk result (λ touched. touched.whole ≡ false
-            → AreNear P.cmp touched touched.near.items self.now.list.items) }
-        ensures noted { IfOk result (λ touched. AreNoted touched.near.items noted.new.items) }
+        ensures closed { OnOk result (is_closed P.cmp touched.new done.now.items (in_units self.now) ≡ true) }
+        ensures loose { OnOk result (All (λ m. has_both P.cmp touched.new m ≡ true) self.now.loose) }
+        ensures tied { OnOk result (AreTied (caps_of P.cmp peers.now.entries []) touched.new) }
+        ensures level { OnOk result (IfSome self.now.floor (λ floor. touched.new.level ≤ floor)) }
+        ensures near { OnOk result (touched.new.whole ≡ false
+            → AreNear P.cmp touched.new touched.new.near.items self.now.list.items) }
+        ensures noted { OnOk result (AreNoted touched.new.near.items noted.new.items) }
         ensures refused { IfErr result (λ e. e ≡ Error.OutOfMemory) }
     {
         if self.unsearched > 0 {
-            return self.all_touched(peers, pairs, noted, space);
+            return self.take_all(peers, pairs, noted, touched);
         }
-        self.component(done, peers, pairs, noted, space)
+        touched.clear();
+        self.find_component(done, peers, pairs, noted, touched)
     }
 
     /// How many accounts more are made without a search, after one at which all were touched or a

@@ -5,6 +5,7 @@ use Rattle.link_flights.proofs.Common.{list_any, Ordering, Arc, Global, le-leb, 
 use Rattle.link_flights.proofs.Common.{Recipient, Component, Flight, keeps, is_of, those_of, is_receiver, has_both}
 use Rattle.link_flights.proofs.Common.{has_end, joins}
 use Rattle.link_flights.proofs.Common.{touches, suits, is_closed, UnitFlight, flight_at, flights_at, take_more}
+use Rattle.std.proofs.Common.{Result, Ok, Err, OnOk}
 use Rattle.link_pairs.specs.declared.message.Message.{Message}
 use Rattle.std.proofs.Math.Bool.{and-false, or-true}
 use Rattle.link_flights.proofs.Common.{all_passed}
@@ -18,6 +19,11 @@ module _ {P : Type 0} (cmp : P → P → Ordering) (now : ℕ) (list : List (Fli
   one_more =
       ap (flights_at now) (take_more list at one inside ∙ ap (λ x. take at list ++ x ∷ []) (sym is))
       ∙ map-append (λ (f : Flight P). flight_at now f) (take at list) (one ∷ [])
+
+-- what holds in any case holds after a success
+pub always_ok : {T E Q : Type 0} (r : Result T E) → Q → OnOk r Q
+always_ok (Ok x) q = q
+always_ok (Err e) q = tt
 
 -- all are of a component of all senders and receivers, with no level
 module _ {P : Type 0} (cmp : P → P → Ordering) (component : Component P) (whole : component.whole ≡ true)
